@@ -1,0 +1,14 @@
+pub mod Amounts
+pub mod AmountLaws
+pub mod Problem
+pub mod Refusals
+pub mod Units
+pub mod UnitLaws
+pub mod Priority
+pub mod PriorityLawful
+pub mod EqualAwards
+pub mod EqualAwardsLawful
+pub mod Proportion
+pub mod ProportionLawful
+pub mod Talmud
+pub mod TalmudLawful
