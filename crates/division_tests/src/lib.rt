@@ -1,5 +1,9 @@
 // Tests of the rules on worked problems and at the edges, and a rule of a stranger behind the same interface.
+ghost use mathlib.Core.Path.{_≡_};
+ghost use mathlib.Core.Bool.{cond};
+ghost use Prim.Native.Nat.{_+_};
 ghost use Rattle.std.specs.Of.Vec.{vec-len};
+ghost use Rattle.std.specs.Results.{isOk};
 ghost use Rattle.division_tests.specs.Ballot.{ballot, ballot-lawful};
 use division::equal_awards::EqualAwards;
 use division::equal_awards::EqualAwardsRule;
@@ -7,12 +11,28 @@ use division::priority::Priority;
 use division::priority::PriorityRule;
 use division::refusal::RuleRefusal;
 use division::rule::Rule;
+use std::alloc::Refused;
 
 // A rule from outside the four: it owns memory, can be neither copied nor cloned, and its awards depend on what it
 // holds.
 #[derive(Drop)]
 pub struct Ballot {
     votes: Vec<u32>,
+}
+
+impl Ballot {
+    pub fn new(votes: Vec<u32>) -> Self
+        ensures result { λ r. ⌜ r .votes ≡ votes ⌝ }
+    {
+        Ballot { votes }
+    }
+
+    // One vote more for equal awards.
+    pub fn vote(&mut self, voter: u32) -> Result<(), Refused<u32>>
+        ensures votes { λ r. ⌜ vec-len (now (self .exit) .votes) ≡ cond (isOk r) (vec-len (now (self .entry) .votes) + 1) (vec-len (now (self .entry) .votes)) ⌝ }
+    {
+        self.votes.push(voter)
+    }
 }
 
 pub impl Rule for Ballot as BallotRule {
@@ -123,7 +143,7 @@ mod tests {
         };
         edges(&rt, &rule)?;
         awards(&rt, &rule, &[100, 200, 300], 100, &[100, 0, 0])?;
-        rule.votes.push(11)?;
+        rule.vote(11)?;
         edges(&rt, &rule)?;
         awards(&rt, &rule, &[100, 200, 300], 100, &[34, 33, 33])
     }

@@ -1,0 +1,12 @@
+pub mod Agreement
+pub mod Exchange
+pub mod Seniority
+pub mod Piles
+pub mod Pressing
+pub mod Apart
+pub mod Theorems
+pub mod InTurn
+pub mod Lettering
+pub mod Answering
+pub mod Laying
+pub mod Refusing

@@ -1,0 +1,10 @@
+pub mod Letters
+pub mod Forms
+pub mod FormParts
+pub mod FormText
+pub mod Alike
+pub mod Laws
+pub mod Comparing
+pub mod Layers
+pub mod Piles
+pub mod Worked
