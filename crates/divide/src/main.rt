@@ -1,5 +1,5 @@
 // Works a list of estates through the four rules, some of them under letters, and prints each with its awards; then
-// compares some strings of letters by their normal forms.
+// compares some strings of letters by their normal forms; and works one estate through interim payments.
 use division::equal_awards::EqualAwards;
 use division::equal_awards::EqualAwardsRule;
 use division::priority::Priority;
@@ -15,6 +15,8 @@ use normal_form::pile::PileRefusal;
 use normal_form::pile::apply;
 use std::fmt;
 use std::io;
+
+mod interim;
 
 #[derive(Clone, Copy)]
 enum BaseRule {
@@ -206,5 +208,6 @@ fn show_comparisons(rt: &LibcRuntime) -> io::Result<()> {
 fn main(rt: LibcRuntime) -> io::Result<()> {
     show_rules(&rt)?;
     show_letters(&rt)?;
-    show_comparisons(&rt)
+    show_comparisons(&rt)?;
+    interim::show_interim_series(&rt)
 }

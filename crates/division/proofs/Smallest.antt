@@ -9,14 +9,9 @@ use native.Mathlib.Omega.{arith}
 use Rattle.std.proofs.shelf.Tests.{cases-bool, both-ways}
 use Rattle.std.specs.declared.option.Option.{Option}
 use Rattle.std.specs.declared.option.Option.the-variants.{Some, None}
-use Rattle.division.specs.Refusals.{first-due, SmallestOf}
+use Rattle.division.specs.Refusals.{first-due, Stands, SmallestOf}
 
 module _ {R : Type 0} where
-  -- a refusal stands in the list beside a test that holds
-  abbrev pub Stands : List (Bool × R) → R → Type 0
-  Stands [] e = ⊥
-  Stands (t ∷ ts) e = ((t .0 ≡ true) × (t .1 ≡ e)) ⊎ Stands ts e
-
   -- a test that holds says that its refusal applies
   abbrev pub Honest : (R → Type 0) → List (Bool × R) → Type 0
   Honest Applies [] = Unit {0}
@@ -83,3 +78,15 @@ module _ {R : Type 0} where
     smallest = λ e other is holds. smallest number ts up e other is (complete other holds);
     none-left = λ is other holds. none-left ts is other (complete other holds);
   }
+
+  honest-later : (Applies More : R → Type 0) → ((e : R) → Applies e → More e) → (ts : List (Bool × R)) → Honest Applies ts → Honest More ts
+  honest-later Applies More more [] honest = tt
+  honest-later Applies More more (t ∷ ts) honest = ((λ holds. more (t .1) (honest .0 holds)), honest-later Applies More more ts (honest .1))
+
+  stands-honest : (ts : List (Bool × R)) → Honest (Stands ts) ts
+  stands-honest [] = tt
+  stands-honest (t ∷ ts) = ((λ holds. inl (holds, refl)), honest-later (Stands ts) (Stands (t ∷ ts)) (λ e. inr) ts (stands-honest ts))
+
+  -- of tests in the order of their numbers, the first that holds has the smallest number among those that hold
+  pub smallest-standing : (number : R → ℕ) (ts : List (Bool × R)) → Ascending number ts → SmallestOf number (Stands ts) (first-due ts)
+  smallest-standing number ts up = smallest-of number (Stands ts) ts (stands-honest ts) (λ e stands. stands) up

@@ -1,7 +1,8 @@
 -- Why a rule refuses a problem, and which refusal is answered where several apply. Assumes nothing.
 use mathlib.Core.Path.{_≡_}
-use mathlib.Core.Bool.{Bool, not, cond}
+use mathlib.Core.Bool.{Bool, true, not, cond}
 use mathlib.Core.List.{List, [], _∷_}
+use mathlib.Core.Logic.{_⊎_}
 use Prim.Native.Nat.{ℕ, _≤_, _<_}
 use lib.Dec.{eqb, ltb}
 use lib.ListN.{length}
@@ -18,6 +19,11 @@ use Rattle.division.specs.declared.refusal.RuleRefusal.the-variants.{TooManyCl
 abbrev pub first-due : {R : Type 0} → List (Bool × R) → Option R
 first-due [] = None
 first-due (t ∷ ts) = cond (t .0) (Some (t .1)) (first-due ts)
+
+-- a refusal stands in the list beside a test that holds
+abbrev pub Stands : {R : Type 0} → List (Bool × R) → R → Type 0
+Stands [] e = ⊥
+Stands (t ∷ ts) e = ((t .0 ≡ true) × (t .1 ≡ e)) ⊎ Stands ts e
 
 -- the answer is a refusal that applies, and none with a smaller number applies; there is no answer where none applies
 pub record SmallestOf {R : Type 0} (number : R → ℕ) (Applies : R → Type 0) (answer : Option R) : Type 0 where

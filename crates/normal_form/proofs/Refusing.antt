@@ -17,9 +17,9 @@ use Rattle.std.specs.declared.result.Result.{Result}
 use Rattle.std.specs.declared.result.Result.the-variants.{Ok, Err}
 use Rattle.division.specs.Amounts.{total}
 use Rattle.division.specs.Problem.{most-claims, most-total}
-use Rattle.division.specs.Refusals.{SmallestOf, due, first-due, answer}
+use Rattle.division.specs.Refusals.{Stands, SmallestOf, due, first-due, answer}
 use Rattle.division.specs.declared.refusal.RuleRefusal.the-variants.{TooManyClaims, AwardListLength, TotalAboveLimit, EstateAboveTotal}
-use Rattle.division.proofs.Smallest.{Stands, Honest, Ascending, smallest-of}
+use Rattle.division.proofs.Smallest.{Honest, Ascending, smallest-of}
 use Rattle.operators.specs.Operators.{Classed}
 use Rattle.operators.specs.Classes.{all-classed}
 use Rattle.operators.specs.ClassListLaws.{classed-if-tested, tested-if-classed}

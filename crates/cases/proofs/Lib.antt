@@ -1,0 +1,11 @@
+pub mod Tables
+pub mod Payments
+pub mod Searches
+pub mod Ascents
+pub mod Divisions
+pub mod Pressings
+pub mod Dues
+pub mod Tying
+pub mod Postings
+pub mod Histories
+pub mod ExampleRuns
