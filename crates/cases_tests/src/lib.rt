@@ -266,6 +266,9 @@ mod tests {
         check_eq(number_of(case.admit(0, 5, 1)), 9)?;
         check_eq(number_of(case.admit(65, 5, 9)), 5)?;
         check_eq(number_of(case.admit(65, MOST, 9)), 3)?;
+        check_eq(number_of(case.divide(&EqualAwards)), 0)?;
+        // A sheet that is out is answered before a full table.
+        check(admitting_while_out(&mut case)? == [8, 3, 5, 8, 8])?;
         check_eq(number_of(case.amend(64, MOST - 315)), 0)?;
         check_eq(case.rows().len(), 64)
     }

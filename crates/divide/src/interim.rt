@@ -114,7 +114,7 @@ fn show_sums(rt: &LibcRuntime, case: &Case, sums: &[i64; 3]) -> io::Result<()> {
     Ok(())
 }
 
-pub fn show_interim_series(rt: &LibcRuntime) -> io::Result<()> {
+pub(crate) fn show_interim_series(rt: &LibcRuntime) -> io::Result<()> {
     let mut case = Case::new(1, rt.alloc())?;
     if open(&mut case).is_err() {
         return println!(rt, "the claims were refused");

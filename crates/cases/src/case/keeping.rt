@@ -54,7 +54,7 @@ impl Case {
     pub fn estate(&self) -> u32
         ensures result { λ r. ⌜ r ≡ estate-of (view (now (self .entry))) ⌝ }
     {
-        self.fund
+        self.fund // the whole of it
     }
 
     // Adds a row with nothing paid and nothing awarded.
