@@ -1,0 +1,9 @@
+pub mod Marks
+pub mod Lines
+pub mod Decimal
+pub mod Fields
+pub mod LineRefusals
+pub mod LineKinds
+pub mod Calls
+pub mod Written
+pub mod Refused
