@@ -1,7 +1,7 @@
 -- The range that holds the level, and its halves. Assumes nothing.
-use Rattle.std.proofs.Common.{◌≡◌, ℕ, ◌-◌, ◌<◌, ◌≤◌, min, List, [], ◌∷◌, map, refl, ◌∙◌, ⊎_elim, arith}
+use Rattle.std.proofs.Common.{◌≡◌, ℕ, ◌-◌, ◌<◌, ◌≤◌, min, List, map, ◌∙◌, ⊎_elim, arith}
 use Rattle.std.proofs.lemmas.Bool.{cases_lt}
-use Rattle.division.specs.Amounts.{total, cut}
+use Rattle.division.specs.Amounts.{total}
 use Rattle.division.specs.EqualAwards.{largest, Level, Holds}
 use Rattle.division.specs.EqualAwardsLawful.{total_cut_none, total_cut_mono, total_map_min}
 

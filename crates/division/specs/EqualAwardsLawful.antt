@@ -1,11 +1,10 @@
 -- The level is what its definition says, there is only one, and equal awards are lawful. Assumes nothing.
-use Rattle.std.specs.Prelude.{◌≡◌, ℕ, zero, suc, ◌+◌, ◌-◌, ◌<◌, ◌≤◌, min, Bool, true, false, cond, ltb, ◌⊎◌, List, [], ◌∷◌, map, length, nat_le, nat_lt, refl}
-use Rattle.std.proofs.Common.{sym, ap, subst, ◌∙◌, inl, inr, ⊎_elim, arith}
+use Rattle.std.specs.Prelude.{◌≡◌, ℕ, zero, suc, ◌+◌, ◌-◌, ◌≤◌, min, cond, ltb, List, [], ◌∷◌, map, nat_le, nat_lt, refl}
+use Rattle.std.proofs.Common.{ap, subst, ◌∙◌, ⊎_elim, arith}
 use Rattle.std.proofs.lemmas.Bool.{cond_both, leb-true, leb-false, ltb-true, ltb-false, cases_lt}
 use Rattle.division.specs.Amounts.{total, cut}
-use Rattle.division.specs.AmountLaws.{Within}
-use Rattle.division.specs.Problem.{Lawful, Sound}
-use Rattle.division.specs.Units.{topped_up, how_many, Room}
+use Rattle.division.specs.Problem.{Lawful}
+use Rattle.division.specs.Units.{how_many, Room}
 use Rattle.division.specs.UnitLaws.{length-topped_up, within_topped_up, total-topped_up}
 use Rattle.division.specs.EqualAwards.{largest, Level, level_from, level, rest, equal_awards}
 

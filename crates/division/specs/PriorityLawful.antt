@@ -1,5 +1,5 @@
 -- Priority is lawful. Assumes nothing.
-use Rattle.std.specs.Prelude.{◌≡◌, ℕ, zero, suc, ◌-◌, ◌≤◌, min, List, [], ◌∷◌, length, get_or, refl}
+use Rattle.std.specs.Prelude.{◌≡◌, ℕ, zero, suc, ◌-◌, ◌≤◌, min, List, [], ◌∷◌, length, refl}
 use Rattle.std.proofs.Common.{ap, arith}
 use Rattle.division.specs.Amounts.{total}
 use Rattle.division.specs.AmountLaws.{Within}

@@ -1,10 +1,10 @@
 -- The Talmud rule is lawful. Assumes nothing.
-use Rattle.std.specs.Prelude.{◌≡◌, ℕ, zero, suc, ◌+◌, ◌-◌, ◌*◌, ◌/◌, ◌%◌, ◌<◌, ◌≤◌, Bool, true, false, cond, List, [], ◌∷◌, map, length, nat_le, refl}
-use Rattle.std.proofs.Common.{sym, ap, ◌∙◌, arith}
+use Rattle.std.specs.Prelude.{◌≡◌, ℕ, zero, suc, ◌+◌, ◌-◌, ◌*◌, ◌%◌, ◌≤◌, cond, List, [], ◌∷◌, nat_le, refl}
+use Rattle.std.proofs.Common.{◌∙◌, arith}
 use Rattle.std.proofs.lemmas.List.{length-map}
 use Rattle.std.proofs.lemmas.Bool.{cond_both, leb-true, leb-false, eqb-true, eqb-false}
 use Rattle.division.specs.Amounts.{total, less}
-use Rattle.division.specs.AmountLaws.{Within, length-less, slice_index-less, total-less, total-within}
+use Rattle.division.specs.AmountLaws.{Within, length-less, slice_index-less, total-less}
 use Rattle.division.specs.Problem.{Lawful, Divides, Sound}
 use Rattle.division.specs.Units.{topped_up, how_many, Room}
 use Rattle.division.specs.UnitLaws.{length-topped_up, within_topped_up, total-topped_up}

@@ -1,5 +1,5 @@
 -- What handing out single units gives: lengths, bounds and what the shares add up to. Assumes nothing.
-use Rattle.std.specs.Prelude.{◌≡◌, ℕ, zero, suc, ◌+◌, ◌-◌, ◌≤◌, min, Bool, true, false, cond, List, [], ◌∷◌, map, length, get_or, refl}
+use Rattle.std.specs.Prelude.{◌≡◌, ℕ, zero, suc, ◌+◌, ◌-◌, ◌≤◌, Bool, true, false, cond, List, [], ◌∷◌, map, length, refl}
 use Rattle.std.proofs.Common.{ap, arith}
 use Rattle.division.specs.Amounts.{total}
 use Rattle.division.specs.AmountLaws.{Within}

@@ -1,4 +1,6 @@
 // Division rules: a problem, the interface that every rule meets, and the bureau's four rules.
+#![tactic(auto)]
+
 pub mod equal_awards;
 mod level;
 pub mod priority;

@@ -23,7 +23,7 @@ pub(crate) trait Share {
 // What the base shares of the claims add up to.
 pub(crate) fn base_total<S: Share>(share: &S, claims: &[u32]) -> u64
     requires { length claims.now ≤ most_claims }
-    ensures result { result ≡ total (map (base share.now) claims.now) }
+    ensures result { result ≡ total (map (S.base share.now) claims.now) }
 {
     let mut sum: u64 = 0;
     for (_place, claim) in claims.iter().enumerate() {
@@ -43,7 +43,7 @@ fn unit_for(marked: bool, left: u32) -> u32
 // How many claims are marked for a unit more.
 pub(crate) fn marked_count<S: Share>(share: &S, claims: &[u32]) -> u32
     requires { length claims.now ≤ most_claims }
-    ensures result { result ≡ how_many (marked share.now) claims.now }
+    ensures result { result ≡ how_many (S.marked share.now) claims.now }
 {
     let mut count: u32 = 0;
     for (_place, claim) in claims.iter().enumerate() {
@@ -56,7 +56,7 @@ pub(crate) fn marked_count<S: Share>(share: &S, claims: &[u32]) -> u32
 // Writes each claim's base share, and one unit more for each of the first `units` claims that are marked.
 pub(crate) fn hand_out<S: Share>(share: &S, units: u32, claims: &[u32], out: &mut [u32])
     requires { length out.old ≡ length claims.now }
-    ensures awards { out.new ≡ topped_up (base share.now) (marked share.now) units claims.now }
+    ensures awards { out.new ≡ topped_up (S.base share.now) (S.marked share.now) units claims.now }
 {
     let mut left = units;
     for (i, claim) in claims.iter().enumerate() {

@@ -8,9 +8,9 @@ pub returns : goal.returns
 returns c =
     let claims = c.args.claims.now in
     let estate = c.args.estate in
-    let l = c.find-level-level.result.0 in
+    let l = c.find_level-level.result.0 in
     record {
-      awards = c.hand-out.ensures.awards
-          ∙ ap (λ r. topped_up (λ n. min n l) (λ n. ltb l n) r claims) c.find-level-level.ensures.rest
-          ∙ ap (λ (k : ℕ). topped_up (λ n. min n k) (λ n. ltb k n) (estate - total (cut k claims)) claims) (level_unique claims estate l c.find-level-level.ensures.level);
+      awards = c.hand_out.ensures.awards
+          ∙ ap (λ r. topped_up (λ n. min n l) (λ n. ltb l n) r claims) c.find_level-level.ensures.rest
+          ∙ ap (λ (k : ℕ). topped_up (λ n. min n k) (λ n. ltb k n) (estate - total (cut k claims)) claims) (level_unique claims estate l c.find_level-level.ensures.level);
     }

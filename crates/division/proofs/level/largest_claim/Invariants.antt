@@ -3,4 +3,4 @@ use Rattle.division.specs.EqualAwards.{largest}
 use Rattle.division.proofs.level.largest_claim.Given as goal
 
 abbrev pub invariant-loop-place : goal.invariant-loop-place
-invariant-loop-place l = l.most ≡ largest (take l.-place l.claims)
+invariant-loop-place l = l.most ≡ largest (take l._place l.claims)

@@ -1,6 +1,5 @@
-use Rattle.std.proofs.Common.{ap, ◌∙◌, arith, rules}
+use Rattle.std.proofs.Common.{rules}
 use Rattle.std.proofs.lemmas.List.{take_all}
-use Rattle.division.specs.Amounts.{total}
 use Rattle.division.specs.AmountLaws.{total_more}
 use Rattle.division.proofs.problem.claims_total.Goals as goal
 

@@ -8,7 +8,7 @@ pub returns-then-sum-eq0 : goal.returns-then-sum-eq0
 returns-then-sum-eq0 c =
     let claims = c.args.claims.now in
     record {
-      awards = c.pay-nothing.ensures.awards
+      awards = c.pay_nothing.ensures.awards
           ∙ nothing_same c.args.out.now claims c.requires.room
           ∙ sym (cond-true (eqb (total claims) 0) (nothing claims) _ (eq-eqb (total claims) 0 (omega arith)));
     }

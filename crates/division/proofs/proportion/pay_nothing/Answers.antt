@@ -1,4 +1,4 @@
-use Rattle.std.proofs.Common.{length, sym, ◌∙◌, arith, ext_get_or, rules, below_more}
+use Rattle.std.proofs.Common.{sym, ◌∙◌, arith, ext_get_or, below_more}
 use Rattle.std.proofs.lemmas.List.{get_or-set_same, get_or-set_other}
 use Rattle.division.specs.Amounts.{nothing}
 use Rattle.division.specs.AmountLaws.{length-nothing, slice_index-nothing}

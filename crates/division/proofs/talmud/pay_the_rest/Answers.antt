@@ -1,4 +1,4 @@
-use Rattle.std.proofs.Common.{sym, ◌∙◌, arith, ext_get_or, rules}
+use Rattle.std.proofs.Common.{sym, ◌∙◌, arith, ext_get_or}
 use Rattle.division.specs.Amounts.{less}
 use Rattle.division.specs.AmountLaws.{length-less, slice_index-less}
 use Rattle.division.proofs.talmud.pay_the_rest.Goals as goal

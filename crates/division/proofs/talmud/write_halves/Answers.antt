@@ -1,6 +1,6 @@
-use Rattle.std.proofs.Common.{◌+◌, [], ◌∷◌, ◌++◌, get_or, take, sym, ap, ◌∙◌, arith, rules}
+use Rattle.std.proofs.Common.{[], ◌∷◌, ◌++◌, get_or, sym, ap, ◌∙◌, arith, rules}
 use Rattle.std.proofs.lemmas.List.{take_more_set, map_more, take_all}
-use Rattle.division.specs.Talmud.{half, halves}
+use Rattle.division.specs.Talmud.{half}
 use Rattle.division.proofs.talmud.write_halves.Goals as goal
 
 pub loop-i-preserved : goal.loop-i-preserved
