@@ -1,4 +1,6 @@
 // The five operators as layers over any rule.
+#![tactic(auto)]
+
 mod amounts;
 pub mod borrowed;
 pub mod classes;

@@ -4,8 +4,8 @@ use Rattle.division.specs.AmountLaws.{length-plus, slice_index-plus, slice_index
 use Rattle.operators.proofs.Writes.{partly_more, partly_all}
 use Rattle.operators.proofs.amounts.add_to.Goals as goal
 
-pub overflow-add-awards : goal.overflow-add-awards
-overflow-add-awards c =
+pub overflow_add-awards : goal.overflow_add-awards
+overflow_add-awards c =
     let place = c.loop-place.place in
     omega (arith, c.loop-place.invariant.above place (omega arith), slice_index-total c.args.amounts.now place, slice_index-total c.args.awards.now place)
 

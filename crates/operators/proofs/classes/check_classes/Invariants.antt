@@ -3,4 +3,4 @@ use Rattle.operators.specs.Classes.{all_classed}
 use Rattle.operators.proofs.classes.check_classes.Given as goal
 
 abbrev pub invariant-loop-place : goal.invariant-loop-place
-invariant-loop-place l = all_classed (drop l.-place l.classes) ≡ all_classed l.classes
+invariant-loop-place l = all_classed (drop l._place l.classes) ≡ all_classed l.classes

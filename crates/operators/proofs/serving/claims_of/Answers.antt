@@ -16,7 +16,7 @@ loop-place-preserved c =
     let place = c.loop-place.place in
     let own = get_or_default classes place 0 8 (omega arith) in
     scratch_more (of_class class classes claims) _ _ _ c.loop-place.invariant (omega arith)
-    (c.claim-in.ensures.result ∙ ap (λ j. cond (eqb j class) (get_or claims place 0) 0) own ∙ sym (slice_index-of_class class classes claims place))
+    (c.claim_in.ensures.result ∙ ap (λ j. cond (eqb j class) (get_or claims place 0) 0) own ∙ sym (slice_index-of_class class classes claims place))
 
 pub returns : goal.returns
 returns c =

@@ -10,36 +10,36 @@ use Rattle.operators.proofs.minimal_rights.MinimalRightsRule.divide.Goals as goa
 use Rattle.operators.proofs.minimal_rights.MinimalRightsRule.divide.Goals.{After-divide}
 
 -- the rule was asked to share the rest
-asked : (g : given.Over) (c : After-divide g) → Parted c.args.claims.now c.args.estate (length c.args.out.now) (take (length c.args.claims.now - 0) c.rights-of-own.result) c.total-of-own-total.result (take (length c.args.claims.now - 0) c.cut-claims-rest.result)
-asked g c = parted c.args.claims.now c.args.estate _ _ c.rights-of-own.result _ c.cut-claims-rest.result c.in-ok-total.ensures.result c.rights-of-own.ensures.rights c.total-of-own-total.ensures.result c.cut-claims-rest.ensures.claims
+asked : (g : given.Over) (c : After-divide g) → Parted c.args.claims.now c.args.estate (length c.args.out.now) (take (length c.args.claims.now - 0) c.rights_of-own.result) c.total_of-own_total.result (take (length c.args.claims.now - 0) c.cut_claims-rest.result)
+asked g c = parted c.args.claims.now c.args.estate _ _ c.rights_of-own.result _ c.cut_claims-rest.result c.in_ok-total.ensures.result c.rights_of-own.ensures.rights c.total_of-own_total.ensures.result c.cut_claims-rest.ensures.claims
 
 -- and gave its awards for it
-given-rest : (g : given.Over) (c : After-divide g) → c.divide.new.out ≡ g.R.Rule.awards c.args.self.now.rule (take (length c.args.claims.now - 0) c.cut-claims-rest.result) (c.args.estate - c.total-of-own-total.result)
+given-rest : (g : given.Over) (c : After-divide g) → c.divide.new.out ≡ g.R.Rule.awards c.args.self.now.rule (take (length c.args.claims.now - 0) c.cut_claims-rest.result) (c.args.estate - c.total_of-own_total.result)
 given-rest g c = asked_awards _ _ _ (asked g c).rest_sound (asked g c).room_is _ _ _ c.divide.ensures.awards
 
-pub total-of-own-total-requires : goal.total-of-own-total-requires
-total-of-own-total-requires g c =
+pub total_of-own_total-requires : goal.total_of-own_total-requires
+total_of-own_total-requires g c =
     let claims = c.args.claims.now in
     let estate = c.args.estate in
-    let passed = c.in-ok-total.ensures.result in
-    let own_is = own_front claims estate _ _ c.rights-of-own.result passed c.rights-of-own.ensures.rights in
+    let passed = c.in_ok-total.ensures.result in
+    let own_is = own_front claims estate _ _ c.rights_of-own.result passed c.rights_of-own.ensures.rights in
     record { small = omega (arith, ap total own_is, rights_fit claims estate passed.sound, passed.sound.covered, passed.sound.small) }
 
-pub overflow-sub-estate : goal.overflow-sub-estate
-overflow-sub-estate g c =
+pub overflow_sub-estate : goal.overflow_sub-estate
+overflow_sub-estate g c =
     let claims = c.args.claims.now in
-    let passed = c.in-ok-total.ensures.result in
-    let own_is = own_front claims c.args.estate _ _ c.rights-of-own.result passed c.rights-of-own.ensures.rights in
-    omega (arith, c.total-of-own-total.ensures.result, ap total own_is, rights_fit claims c.args.estate passed.sound)
+    let passed = c.in_ok-total.ensures.result in
+    let own_is = own_front claims c.args.estate _ _ c.rights_of-own.result passed c.rights_of-own.ensures.rights in
+    omega (arith, c.total_of-own_total.ensures.result, ap total own_is, rights_fit claims c.args.estate passed.sound)
 
-pub returns-in-err-divide : goal.returns-in-err-divide
-returns-in-err-divide g c =
-    let problem = asked g (goal.at.returns-in-err-divide g c).After-divide in
-    absurd (never_refused _ _ _ problem.rest_sound problem.room_is _ _ c.divide.ensures.result c.in-err-divide.was)
+pub returns-in_err-divide : goal.returns-in_err-divide
+returns-in_err-divide g c =
+    let problem = asked g (goal.at.returns-in_err-divide g c).After-divide in
+    absurd (never_refused _ _ _ problem.rest_sound problem.room_is _ _ c.divide.ensures.result c.in_err-divide.was)
 
-pub add-to-requires : goal.add-to-requires
-add-to-requires g c =
-    let at = (goal.at.add-to-requires g c).After-divide in
+pub add_to-requires : goal.add_to-requires
+add_to-requires g c =
+    let at = (goal.at.add_to-requires g c).After-divide in
     let rule = c.args.self.now.rule in
     let both = rights_and_awards (asked g at) (g.R.Rule.awards rule) (g.R.Rule.lawful rule) _ (given-rest g at) in
     record { long = both.0; small = both.1 }
@@ -51,8 +51,8 @@ returns g c =
     let estate = c.args.estate in
     let f = g.R.Rule.awards c.args.self.now.rule in
     let refusal = due claims estate (length c.args.out.now) in
-    let none : refusal ≡ None = c.in-ok-total.ensures.result.none in
+    let none : refusal ≡ None = c.in_ok-total.ensures.result.none in
     record {
       result = answered refusal none;
-      awards = awarded refusal none (minimal_rights f claims estate) c.args.out.now c.add-to.new.awards (rights_first (asked g at) f _ _ (given-rest g at) c.add-to.ensures.awards);
+      awards = awarded refusal none (minimal_rights f claims estate) c.args.out.now c.add_to.new.awards (rights_first (asked g at) f _ _ (given-rest g at) c.add_to.ensures.awards);
     }

@@ -6,11 +6,11 @@ use Rattle.operators.specs.ClassListLaws.{classed_if_none_due, none_due_if_class
 use Rattle.operators.proofs.ClassTests.{passed_none, failed_some, only_refusal}
 use Rattle.operators.proofs.seniority.Seniority.new.Goals as goal
 
-pub invariant-of-result : goal.invariant-of-result
-invariant-of-result g c =
+pub invariant_of-result : goal.invariant_of-result
+invariant_of-result g c =
     let classes = c.args.classes.now in
     let classed = classed_if_none_due classes (passed_none _ c.in-Ok.ensures.result) in
-    (subst Classed (sym c.keep.ensures.result) (kept_classed classes classed), tt)
+    record { classed = subst Classed (sym c.keep.ensures.result) (kept_classed classes classed) }
 
 pub returns-in-Ok : goal.returns-in-Ok
 returns-in-Ok g c =
