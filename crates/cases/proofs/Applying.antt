@@ -2,7 +2,7 @@
 -- each call answers the smallest refusal that applies. Assumes nothing.
 use Rattle.std.proofs.Common.{◌≡◌, ℕ, zero, suc, ◌+◌, ◌<◌, ◌≤◌, Bool, true, false, not, ◌&&◌, ◌||◌, eqb, ltb, leb, ◌⊎◌, List, [], ◌∷◌, length, is_some, Some, None, Option, sym, refl, ap, ◌∙◌, subst, inl, inr, ⊎_elim, arith}
 use Rattle.std.specs.List.{ContainsAt as Has}
-use Rattle.std.proofs.lemmas.Bool.{both_ways, not_true, not_from_false, cases_Bool, ltb-true, lt-ltb, leb-true, le-leb, eqb-true, eq-eqb, eqb-false, and_parts, and_from, or_cases, or_left, or_right, false≢true}
+use Rattle.std.proofs.lemmas.Bool.{both_ways, not-true, not_from_false, cases_Bool, ltb-true, lt-ltb, leb-true, le-leb, eqb-true, eq-eqb, eqb-false, and_parts, and_from, or_cases, or_left, or_right, false≢true}
 use Rattle.division.specs.Amounts.{total}
 use Rattle.division.specs.Problem.{most_claims, most_total}
 use Rattle.division.specs.Refusals.{Stands}
@@ -44,7 +44,7 @@ module _ {X : Type 0} where
 
 -- a test that fails exactly if something holds
 not_so : {A : Type 0} (b : Bool) → (A → b ≡ true) → not b ≡ true → A → ⊥
-not_so b so fails a = both_ways b (not_true b fails) (so a)
+not_so b so fails a = both_ways b (not-true b fails) (so a)
 
 so_not : {A : Type 0} (b : Bool) → (b ≡ true → A) → (A → ⊥) → not b ≡ true
 so_not b so never = ⊎_elim (λ holds. absurd (never (so holds))) (not_from_false b) (cases_Bool b)
@@ -203,7 +203,7 @@ smallest_in_words = record {
   fund = λ v amount. smallest_of case_refusal_number (FundApplies v amount) (fund_tests v amount) (ltb-true most_total amount, ((λ out. out), tt)) (fund_stands v amount) (grind arith);
   press = λ v letters. smallest_of case_refusal_number (PressApplies v letters) (press_tests v letters) (unknown_some letters, ((λ out. out), tt)) (press_stands v letters) (grind arith);
   divide = λ v. smallest_of case_refusal_number (DivideApplies v) (divide_tests v) (ltb-true (total (amounts v.rows)) (estate_of v), ((λ out. out), tt)) (divide_stands v) (grind arith);
-  draw = λ v. smallest_of case_refusal_number (DrawApplies v) (draw_tests v) ((λ out. out), (not_true v.marked, tt)) (draw_stands v) (grind arith);
+  draw = λ v. smallest_of case_refusal_number (DrawApplies v) (draw_tests v) ((λ out. out), (not-true v.marked, tt)) (draw_stands v) (grind arith);
   tally_and_return = λ v sheet. smallest_of sheet_refusal_number (SheetApplies v sheet) (sheet_tests v sheet) (not_so (is_its_sheet v sheet) (is_its v sheet), tt) (sheet_stands v sheet) (grind arith);
   sign = λ v sheet room. smallest_of sheet_refusal_number (SignApplies v sheet room) (sign_tests v sheet room)
       (not_so (is_its_sheet v sheet) (is_its v sheet), (ltb-true room (length (lines v.rows)), tt)) (sign_stands v sheet room) (grind arith);

@@ -1,7 +1,6 @@
 -- What the layers of a form make of a rule. Assumes nothing.
-use Rattle.std.proofs.Common.{◌≡◌, ℕ, List, length, None, arith}
+use Rattle.std.proofs.Common.{◌≡◌, ℕ, List, None, arith}
 use Rattle.std.proofs.lemmas.Bool.Decides.{nat_tests}
-use Rattle.division.specs.Amounts.{total}
 use Rattle.division.specs.Problem.{Meaning, Sound}
 use Rattle.division.specs.Refusals.{due}
 use Rattle.operators.specs.Operators.{served}

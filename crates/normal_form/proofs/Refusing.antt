@@ -1,13 +1,13 @@
 -- The refusal due for a pile is the smallest that applies, and a pile that is not refused has a sound problem and a
 -- class list of classes from 1 to 8. Assumes nothing.
-use Rattle.std.proofs.Common.{◌≡◌, ℕ, Bool, true, false, cond, not, eqb, ltb, ◌⊎◌, List, [], ◌∷◌, ◌++◌, length, is_some, Some, None, Ok, Err, Option, Result, unwrap_or, sym, refl, ap, ◌∙◌, inl, inr, arith}
-use Rattle.std.proofs.lemmas.Bool.{ltb-true, lt-ltb, ne_eqb, eqb-false, not_true, not_from_false, cases_Bool}
+use Rattle.std.proofs.Common.{◌≡◌, ℕ, Bool, true, false, cond, not, eqb, ltb, List, [], ◌∷◌, ◌++◌, length, is_some, Some, None, Ok, Err, Option, unwrap_or, sym, refl, ap, ◌∙◌, inl, inr, arith}
+use Rattle.std.proofs.lemmas.Bool.{ltb-true, lt-ltb, ne_eqb, eqb-false, not-true, not_from_false, cases_Bool}
 use Rattle.std.proofs.lemmas.Bool.Decides.{nat_tests}
 use Rattle.division.specs.Amounts.{total}
 use Rattle.division.specs.Problem.{most_claims, most_total}
 use Rattle.division.specs.Refusals.{Stands, SmallestOf, due, first_due, answer}
 use Rattle.division.specs.declared.refusal.RuleRefusal.TheVariants.{TooManyClaims, AwardListLength, TotalAboveLimit, EstateAboveTotal}
-use Rattle.division.proofs.Smallest.{Honest, Ascending, smallest_of}
+use Rattle.division.proofs.Smallest.{Honest, smallest_of}
 use Rattle.operators.specs.Operators.{Classed}
 use Rattle.operators.specs.Classes.{all_classed}
 use Rattle.operators.specs.ClassListLaws.{classed_if_tested, tested_if_classed}
@@ -36,7 +36,7 @@ module _ (known : Bool) (classes claims : List ℕ) (estate room : ℕ) where
   not_classed : not (all_classed classes) ≡ true → Classed classes → ⊥
   not_classed tested classed =
       let yes = tested_if_classed classes classed in
-      let no = not_true (all_classed classes) tested in
+      let no = not-true (all_classed classes) tested in
       let z : ◌≡◌ {A = ℕ} 0 1 = cc (sym yes ∙ no) in
       omega arith
 
@@ -50,9 +50,9 @@ module _ (known : Bool) (classes claims : List ℕ) (estate room : ℕ) where
   honest = (
     ltb-true most_claims (length claims),
     (
-      (λ e. eqb-false room (length claims) (not_true (eqb room (length claims)) e)),
+      (λ e. eqb-false room (length claims) (not-true (eqb room (length claims)) e)),
       (
-        (λ e. eqb-false (length classes) (length claims) (not_true (eqb (length classes) (length claims)) e)),
+        (λ e. eqb-false (length classes) (length claims) (not-true (eqb (length classes) (length claims)) e)),
         (
           ltb-true most_total (total claims),
           (
@@ -60,7 +60,7 @@ module _ (known : Bool) (classes claims : List ℕ) (estate room : ℕ) where
             (
               not_classed,
               (
-                (λ e is. let z : ◌≡◌ {A = ℕ} 0 1 = cc (sym is ∙ not_true known e) in omega arith),
+                (λ e is. let z : ◌≡◌ {A = ℕ} 0 1 = cc (sym is ∙ not-true known e) in omega arith),
                 tt,
               ),
             ),

@@ -1,7 +1,7 @@
 -- The letters of a form, from each of its parts outward. Assumes nothing.
 use Rattle.std.specs.Prelude.{List, ◌++◌}
 use Rattle.normal_form.specs.declared.letter.Operator.{Operator}
-use Rattle.normal_form.specs.declared.letter.Operator.TheVariants.{Dual, Truncation, MinimalRights}
+use Rattle.normal_form.specs.declared.letter.Operator.TheVariants.{Truncation, MinimalRights}
 use Rattle.normal_form.specs.Forms.{Parts, where_so, is_inner, is_outer, seniority_letter}
 
 -- outer m

@@ -1,5 +1,5 @@
 -- Applying a string of letters to a rule: which refusal is due, and its number. Assumes nothing.
-use Rattle.std.specs.Prelude.{◌≡◌, ℕ, Bool, true, not, List, [], ◌∷◌, length, is_some, Some, None, Option, ◌==◌, nat_lt}
+use Rattle.std.specs.Prelude.{◌≡◌, ℕ, Bool, true, not, List, [], ◌∷◌, length, is_some, Option, ◌==◌, nat_lt}
 use Rattle.std.specs.Option.{unwrap_or}
 use Rattle.division.specs.Amounts.{total}
 use Rattle.division.specs.Problem.{most_claims, most_total}

@@ -1,6 +1,6 @@
 -- At the end of a file no sheet is out. Assumes nothing.
 use Rattle.std.proofs.Common.{◌≡◌, ℕ, Bool, true, false, cond, not, ◌&&◌, eqb, List, [], ◌∷◌, length, Some, None, Ok, Err, Option, Result, sym, refl, ap, ◌∙◌, subst}
-use Rattle.std.proofs.lemmas.Bool.{eq-eqb, not_true}
+use Rattle.std.proofs.lemmas.Bool.{eq-eqb, not-true}
 use Rattle.division.specs.Refusals.{first_due, answer, unless_due}
 use Rattle.cases.specs.declared.sheet.Sheet.{Sheet}
 use Rattle.cases.specs.declared.refusal.CaseRefusal.{CaseRefusal}
@@ -59,7 +59,7 @@ taken_back : (its : Bool) (v : View) → its ≡ true → (unless_due (first_due
 taken_back its v e = ap (λ b. (unless_due (first_due ((not b, OtherCase) ∷ [])) (returned v) v).out) e
 
 end_closed : (o : Option Sheet) (h : InHand) → in_order h.case o ≡ true → (on_return o h).hand.case.out ≡ false
-end_closed None h k = not_true h.case.out k
+end_closed None h k = not-true h.case.out k
 end_closed (Some sheet) h k = taken_back (is_its_sheet h.case sheet) h.case k
 
 pub file_closed : (h : InHand) (ls : List (List ℕ)) → in_order h.case h.sheet ≡ true → (case_after h ls).out ≡ false

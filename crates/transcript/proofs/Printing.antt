@@ -2,7 +2,7 @@
 use Rattle.std.proofs.Common.{◌≡◌, ℕ, zero, suc, ◌+◌, ◌-◌, ◌*◌, ◌/◌, ◌%◌, ◌<◌, ◌≤◌, Bool, true, false, cond, not, ◌&&◌, eqb, ltb, List, [], ◌∷◌, ◌++◌, map, length, ℤ, pos, negsuc, neg_ℤ, codes, sym, refl, ap, ◌∙◌, subst, append_assoc, append-nil, arith}
 use Rattle.std.specs.List.{AllByRecursion as All}
 use Rattle.std.proofs.ByRecursion.{All-append, All-weaker}
-use Rattle.std.proofs.lemmas.Bool.{cond_both, cond-true, cond-false, and_parts, not_true, eqb-false, ne_eqb, ltb-true, ltb-false}
+use Rattle.std.proofs.lemmas.Bool.{cond_both, cond-true, cond-false, and_parts, not-true, eqb-false, ne_eqb, ltb-true, ltb-false}
 use Rattle.normal_form.specs.declared.letter.Operator.{Operator}
 use Rattle.normal_form.specs.declared.letter.Operator.TheVariants.{Dual, Truncation, MinimalRights, Seniority, ReverseSeniority}
 use Rattle.normal_form.specs.Forms.{Parts, byte_of, field_letters, or_hyphen, written}
@@ -35,7 +35,7 @@ word_plain [] e = tt
 word_plain (b ∷ bs) e =
     let p = and_parts (not (eqb b comma)) _ e in
     let q = and_parts (not (eqb b line_end)) (all_plain bs) p.1 in
-    ((eqb-false b comma (not_true (eqb b comma) p.0), eqb-false b line_end (not_true (eqb b line_end) q.0)), word_plain bs q.1)
+    ((eqb-false b comma (not-true (eqb b comma) p.0), eqb-false b line_end (not-true (eqb b line_end) q.0)), word_plain bs q.1)
 
 -- digits: every byte of a number is one, the number that they write is the number, however large it is
 

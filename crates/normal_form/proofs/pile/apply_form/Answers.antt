@@ -1,17 +1,17 @@
-use Rattle.std.proofs.Common.{◌≡◌, true, length, None, arith, rules}
+use Rattle.std.proofs.Common.{◌≡◌, true, length, None, rules}
 use Rattle.normal_form.specs.Piles.{pile_due}
 use Rattle.normal_form.proofs.Refusing.{pile_smallest, passes_rule, passes_classed}
 use Rattle.normal_form.proofs.pile.apply_form.Goals as goal
 
-pub returns-in-err-check-pile : goal.returns-in-err-check-pile
-returns-in-err-check-pile g c = record {
+pub returns-in_err-check_pile : goal.returns-in_err-check_pile
+returns-in_err-check_pile g c = record {
   result = search rules;
   awards = search rules;
   smallest = pile_smallest true c.args.classes.now c.args.claims.now c.args.estate (length c.args.out.now);
 }
 
-pub under-form-requires : goal.under-form-requires
-under-form-requires g c =
+pub under_form-requires : goal.under_form-requires
+under_form-requires g c =
     let none : pile_due true c.args.classes.now c.args.claims.now c.args.estate (length c.args.out.now) ≡ None = search rules in
     record {
       sound = passes_rule c.args.classes.now c.args.claims.now c.args.estate (length c.args.out.now) none;

@@ -6,13 +6,13 @@ use Rattle.normal_form.specs.FormParts.{parts}
 use Rattle.normal_form.proofs.InTurn.{after, one_more, none_known, none_left, refused, pressed_all}
 use Rattle.normal_form.proofs.form.Form.press_all.Goals as goal
 
-pub returns-in-err-letter : goal.returns-in-err-letter
-returns-in-err-letter c =
+pub returns-in_err-letter : goal.returns-in_err-letter
+returns-in_err-letter c =
     let letters = c.args.letters.now in
     let start = parts c.args.self.now in
     let within : c.loop-byte.byte-index < length letters = omega arith in
-    let exit = err_from_is_err_and c.from-residual.result c.from-residual.ensures.1 in
-    let none = none_known letters c.loop-byte.byte-index within (parts c.loop-byte.form) (after start (letters_in letters)) c.in-err-letter.field-0.0 c.in-err-letter.ensures.result c.loop-byte.invariant in
+    let exit = err_from_is_err_and c.from_residual.result c.from_residual.ensures.1 in
+    let none = none_known letters c.loop-byte.byte-index within (parts c.loop-byte.form) (after start (letters_in letters)) c.in_err-letter.field-0.0 c.in_err-letter.ensures.result c.loop-byte.invariant in
     let end = refused start (letters_in letters) exit.0 none in
     let as_it_was = end.1 in
     record { result = exit.1 ∙ end.0; form = search rules }
@@ -23,9 +23,9 @@ loop-byte-preserved c =
     let start = parts c.args.self.now in
     let i = c.loop-byte.byte-index in
     let within : i < length letters = omega arith in
-    let stepped : parts c.press.new.self ≡ pressed (parts c.loop-byte.form) c.in-ok-letter.letter = search rules in
+    let stepped : parts c.press.new.self ≡ pressed (parts c.loop-byte.form) c.in_ok-letter.letter = search rules in
     ap (λ p. after p (letters_in (drop (i + 1) letters))) stepped
-    ∙ one_more letters i within (parts c.loop-byte.form) (after start (letters_in letters)) c.in-ok-letter.letter c.in-ok-letter.ensures.result c.loop-byte.invariant
+    ∙ one_more letters i within (parts c.loop-byte.form) (after start (letters_in letters)) c.in_ok-letter.letter c.in_ok-letter.ensures.result c.loop-byte.invariant
 
 pub returns : goal.returns
 returns c =

@@ -1,5 +1,4 @@
 use Rattle.std.proofs.Common.{ℕ, List, length, ap, ◌∙◌}
-use Rattle.division.specs.Refusals.{due}
 use Rattle.operators.specs.Operators.{served}
 use Rattle.operators.specs.Classes.{order_of, kept}
 use Rattle.operators.specs.ClassListLaws.{kept_serves}
