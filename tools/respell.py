@@ -27,7 +27,7 @@ PLACES = ("getD", "slice_index")
 # names that would otherwise be those of a function in a file that uses both, or that the library gave another spelling
 OTHERS = {
     "length_cut": "length-cut",
-    "letters-of": "field_letters",
+    "letters-of": "letters_of",
     "by-fields": "kind_by_fields",
     "kind-of": "line_kind",
     "of_one": "kind_of_one",
@@ -38,6 +38,9 @@ OTHERS = {
     "is-class": "is_class_number",
     "is-reserved": "is_reserved_number",
 }
+
+# there are two `letters-of`: of a form, and of a field of a line. A function of casefile has the second one's other name
+FIELDS = re.compile(r"Rattle\.casefile\.specs\.Calls\.\{[^}]*letters-of|abbrev pub letters-of : List ℕ → Option")
 
 # a clash that stood before: a parameter of one function, a definition in the clauses of another
 KNOWN = {("transcript/calls.rt", "answer")}
@@ -118,7 +121,7 @@ def clashes(out):
                 code = re.sub(r"ghost use [^;]*;", "", text)
                 own = set(re.findall(r"\b(?:fn|const|struct|enum|let|mut)\s+(\w+)", code)) | set(re.findall(r"\b(\w+)\s*:(?!:)", code)) | set(re.findall(r"\buse [^;]*?(\w+);", code))
                 for g in sorted(ghosts):
-                    to = out.get(g, g)
+                    to = "field_letters" if g == "letters-of" and FIELDS.search(text) else out.get(g, g)
                     if to in own and (os.path.join(crate, f), g) not in KNOWN:
                         found.append((os.path.join(crate, f), g, to))
     return found
@@ -126,6 +129,8 @@ def clashes(out):
 
 def respelled(path, text, out):
     """The text with the names turned. A name without a dash may also be that of a function, so in code and in paths it stays."""
+    if FIELDS.search(text):
+        out = dict(out, **{"letters-of": "field_letters"})
     dashed = {n: to for n, to in out.items() if "-" in n or "′" in n}
     plain = {n: to for n, to in out.items() if n not in dashed}
     text = TOKEN.sub(lambda m: dashed.get(m[0], m[0]), text)

@@ -1,8 +1,8 @@
 -- The tests of every call stand in the order of their numbers, and each says in bits what its refusal says in words; so
 -- each call answers the smallest refusal that applies. Assumes nothing.
-use Rattle.std.proofs.Common.{◌≡◌, ℕ, zero, suc, ◌+◌, ◌<◌, ◌≤◌, Bool, true, false, not, ◌&&◌, ◌||◌, eqb, ltb, leb, ◌⊎◌, List, [], ◌∷◌, length, is_some, Some, None, Option, sym, refl, ap, ◌∙◌, subst, inl, inr, ⊎_elim, arith}
+use Rattle.std.proofs.Common.{◌≡◌, ℕ, zero, suc, ◌+◌, ◌≤◌, Bool, true, not, eqb, ltb, leb, ◌⊎◌, List, [], ◌∷◌, length, is_some, Some, None, Option, refl, ap, ◌∙◌, inl, inr, ⊎_elim, arith}
 use Rattle.std.specs.List.{ContainsAt as Has}
-use Rattle.std.proofs.lemmas.Bool.{both_ways, not-true, not_from_false, cases_Bool, ltb-true, lt-ltb, leb-true, le-leb, eqb-true, eq-eqb, eqb-false, and_parts, and_from, or_cases, or_left, or_right, false≢true}
+use Rattle.std.proofs.lemmas.Bool.{both_ways, not-true, not_from_false, cases_Bool, ltb-true, lt-ltb, leb-true, le-leb, eqb-true, eq-eqb, and_parts, and_from, or_cases, or_left, or_right, false≢true}
 use Rattle.division.specs.Amounts.{total}
 use Rattle.division.specs.Problem.{most_claims, most_total}
 use Rattle.division.specs.Refusals.{Stands}
@@ -10,7 +10,6 @@ use Rattle.division.proofs.Smallest.{smallest_of}
 use Rattle.operators.specs.Operators.{last_class}
 use Rattle.operators.specs.Classes.{is_class_number}
 use Rattle.normal_form.specs.declared.letter.Operator.{Operator}
-use Rattle.normal_form.specs.declared.letter.LetterRefusal.{LetterRefusal}
 use Rattle.normal_form.specs.declared.letter.LetterRefusal.TheVariants.{UnknownLetter}
 use Rattle.normal_form.specs.Letters.{letter_of, letters_in, before_others}
 use Rattle.normal_form.specs.Piles.{all_letters}

@@ -1,5 +1,5 @@
 -- A case that divides hands on a problem that no rule refuses. Assumes nothing.
-use Rattle.std.proofs.Common.{◌≡◌, ℕ, ◌-◌, ◌≤◌, Bool, true, false, List, map, length, take, None, sym, refl, ap, ◌∙◌, arith}
+use Rattle.std.proofs.Common.{◌≡◌, ℕ, ◌-◌, ◌≤◌, true, List, length, take, None, ap, ◌∙◌, arith}
 use lib.ListN.{length-map}
 use Rattle.std.proofs.lemmas.Bool.Decides.{nat_tests}
 use Rattle.division.specs.Amounts.{total}
@@ -8,7 +8,6 @@ use Rattle.operators.specs.Operators.{Classed}
 use Rattle.operators.specs.Classes.{all_classed}
 use Rattle.operators.specs.ClassListLaws.{tested_if_classed}
 use Rattle.normal_form.specs.Piles.{pile_due}
-use Rattle.cases.specs.declared.row.Row.{Row}
 use Rattle.cases.specs.Rows.{amounts, classes_of}
 use Rattle.cases.specs.Cases.{View, divide_due, estate_of}
 

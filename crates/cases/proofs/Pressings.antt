@@ -1,9 +1,9 @@
 -- What pressing a string of letters on a form tells of the letters. Assumes nothing.
-use Rattle.std.proofs.Common.{◌≡◌, ℕ, Bool, true, false, cond, not, List, [], is_some, Some, None, Ok, Err, Option, unwrap_or, refl, ap, ◌∙◌, arith}
+use Rattle.std.proofs.Common.{◌≡◌, ℕ, true, false, cond, not, List, [], is_some, Some, None, Ok, Err, Option, unwrap_or, refl, ap, ◌∙◌, arith}
 use Rattle.normal_form.specs.declared.letter.Operator.{Operator}
 use Rattle.normal_form.specs.declared.letter.LetterRefusal.{LetterRefusal}
 use Rattle.normal_form.specs.declared.letter.LetterRefusal.TheVariants.{UnknownLetter}
-use Rattle.normal_form.specs.Letters.{letters_in, accepted}
+use Rattle.normal_form.specs.Letters.{accepted}
 use Rattle.normal_form.specs.Forms.{Parts, pressed_in_turn, pressed_if_known}
 use Rattle.normal_form.specs.Piles.{all_letters}
 use Rattle.cases.specs.declared.refusal.CaseRefusal.TheVariants.{Letter, SheetOut}

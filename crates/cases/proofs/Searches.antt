@@ -1,10 +1,10 @@
 -- What the search by claimant number tells of the table. Assumes nothing.
-use Rattle.std.proofs.Common.{◌≡◌, ℕ, zero, suc, ◌+◌, ◌<◌, ◌≤◌, Bool, true, false, cond, ◌||◌, eqb, List, [], ◌∷◌, map, length, get_or, set, is_some, Some, None, Option, sym, refl, ap, ◌∙◌, arith}
+use Rattle.std.proofs.Common.{◌≡◌, ℕ, zero, suc, ◌+◌, ◌<◌, ◌≤◌, true, cond, ◌||◌, List, [], ◌∷◌, length, get_or, set, is_some, Some, None, Option, sym, refl, ap, ◌∙◌, arith}
 use Rattle.std.proofs.lemmas.Bool.{eq-eqb, ne_eqb}
 use Rattle.division.specs.Amounts.{total}
 use Rattle.cases.specs.declared.row.Row.{Row}
 use Rattle.cases.specs.Rows.{amounts, on_table, with_amount, set_amount, no_row}
-use Rattle.cases.specs.Search.{FirstBearing, NoneBefore}
+use Rattle.cases.specs.Search.{FirstBearing}
 
 -- whether a row bears the number, and whether a later one does
 first_bears : (row : Row) (rows : List Row) (n : ℕ) → row.number ≡ n → on_table n (row ∷ rows) ≡ true

@@ -1,8 +1,7 @@
 -- The loops over a table's rows, and what the table's calls keep of its rows. Assumes nothing.
-use Rattle.std.proofs.Common.{◌≡◌, ℕ, zero, suc, ◌+◌, ◌<◌, ◌≤◌, Bool, true, false, leb, List, [], ◌∷◌, ◌++◌, map, length, get_or, take, set, sym, refl, ap, ◌∙◌, inl, inr, add-one, arith, length-append}
-use lib.ListN.{length-map}
-use Rattle.std.proofs.lemmas.List.{take_more_set, map_more, get_or_append_left, get_or-append_right, get_or_past, map-append, map-set, get_or-map, set-get_or}
-use Rattle.std.proofs.lemmas.Bool.{and_parts, leb-true, cases_lt}
+use Rattle.std.proofs.Common.{◌≡◌, ℕ, zero, suc, ◌+◌, ◌<◌, true, leb, List, [], ◌∷◌, ◌++◌, map, length, get_or, take, set, sym, refl, ap, ◌∙◌, add-one, arith}
+use Rattle.std.proofs.lemmas.List.{take_more_set, map_more, map-set, set-get_or}
+use Rattle.std.proofs.lemmas.Bool.{and_parts, leb-true}
 use Rattle.division.specs.Amounts.{total}
 use Rattle.operators.specs.Operators.{Classed, last_class}
 use Rattle.operators.specs.Classes.{is_class_number}

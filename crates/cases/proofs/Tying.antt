@@ -10,7 +10,7 @@ use Rattle.operators.specs.Classes.{is_class_number, all_classed}
 use Rattle.operators.specs.ClassListLaws.{classed_if_tested}
 use Rattle.normal_form.specs.declared.letter.Operator.{Operator}
 use Rattle.normal_form.specs.Letters.{applied}
-use Rattle.normal_form.specs.Forms.{Parts, no_letters, pressed, pressed_in_turn, normal_form, field_letters}
+use Rattle.normal_form.specs.Forms.{Parts, no_letters, pressed, pressed_in_turn, normal_form, letters_of}
 use Rattle.normal_form.specs.Piles.{operators_in}
 use Rattle.normal_form.proofs.Piles.{applied_lawful}
 use Rattle.normal_form.proofs.Theorems.{form_says_all}
@@ -263,12 +263,12 @@ module _ (l : Ledger) (v : View) (t : Tied l v) where
       ∙ ap (λ claims. applied l.letters (classes_of v.rows) f claims l.fund) amounts_tied
       ∙ ap (applied l.letters (classes_of v.rows) f (amounts v.rows)) t.fund
       ∙ form_says_all l.letters f law (classes_of v.rows) classed_tied (amounts v.rows) v.fund (sound_tied covered)
-      ∙ ap (λ p. applied (field_letters p) (classes_of v.rows) f (amounts v.rows) v.fund) (sym t.form)
+      ∙ ap (λ p. applied (letters_of p) (classes_of v.rows) f (amounts v.rows) v.fund) (sym t.form)
 
   -- and there is one for each row
   awards_long : (f : Meaning) → Lawful f → v.fund ≤ total (amounts v.rows) → length (awards_by v f) ≡ length v.rows
   awards_long f law covered =
-      (applied_lawful (field_letters v.form) (classes_of v.rows) classed_tied f law (amounts v.rows) v.fund (sound_tied covered)).as_long
+      (applied_lawful (letters_of v.form) (classes_of v.rows) classed_tied f law (amounts v.rows) v.fund (sound_tied covered)).as_long
       ∙ length-map v.rows (λ (row : Row). row.amount)
 
   pub tied_admit : (number amount class : ℕ) → admit_due v number amount class ≡ None → Tied (fed (Admit number amount class (Ok tt)) l) (admitted v number amount class)

@@ -1,12 +1,12 @@
 -- A case and its nine calls: which refusal is due for each, what it answers, and the case afterwards. Assumes nothing.
-use Rattle.std.specs.Prelude.{◌≡◌, ℕ, ◌+◌, Bool, true, false, not, ◌&&◌, List, [], ◌∷◌, ◌++◌, map, length, Some, None, Ok, Err, Option, Result, ◌==◌, nat_le, nat_lt}
+use Rattle.std.specs.Prelude.{ℕ, ◌+◌, Bool, true, false, not, ◌&&◌, List, [], ◌∷◌, ◌++◌, map, length, Some, None, Ok, Err, Option, Result, ◌==◌, nat_le, nat_lt}
 use Rattle.division.specs.Amounts.{total}
 use Rattle.division.specs.Problem.{Meaning, most_claims, most_total}
 use Rattle.division.specs.Refusals.{first_due, Stands, SmallestOf}
 use Rattle.operators.specs.Classes.{is_class_number}
 use Rattle.normal_form.specs.Letters.{applied, letter_number}
 use Rattle.normal_form.specs.declared.letter.LetterRefusal.TheVariants.{UnknownLetter}
-use Rattle.normal_form.specs.Forms.{Parts, no_letters, pressed_in_turn, field_letters}
+use Rattle.normal_form.specs.Forms.{Parts, no_letters, pressed_in_turn, letters_of}
 use Rattle.normal_form.specs.Piles.{all_letters, operators_in}
 use Rattle.cases.specs.declared.row.Row.{Row}
 use Rattle.cases.specs.declared.sheet.Sheet.{Sheet}
@@ -124,7 +124,7 @@ divide_due v = first_due (divide_tests v)
 
 -- the awards of the case's form, over the amounts and classes of the rows
 abbrev pub awards_by : View → Meaning → List ℕ
-awards_by v f = applied (field_letters v.form) (classes_of v.rows) f (amounts v.rows) (estate_of v)
+awards_by v f = applied (letters_of v.form) (classes_of v.rows) f (amounts v.rows) (estate_of v)
 
 abbrev pub divided : View → Meaning → View
 divided v f = record { number = v.number; fund = v.fund; form = v.form; rows = with_awards (awards_by v f) v.rows; marked = true; out = v.out }

@@ -16,7 +16,7 @@ use Rattle.normal_form.specs.declared.form.Order.{Order}
 use Rattle.normal_form.specs.declared.form.Order.TheVariants.{Unordered, SeniorFirst, JuniorFirst}
 use Rattle.normal_form.specs.declared.form.Place.{Place}
 use Rattle.normal_form.specs.declared.form.Place.TheVariants.{Absent, Inner, Outer}
-use Rattle.normal_form.specs.Forms.{Parts, WellPlaced, well_placed, no_letters, pressed, pressed_in_turn, normal_form, field_letters, all_forms}
+use Rattle.normal_form.specs.Forms.{Parts, WellPlaced, well_placed, no_letters, pressed, pressed_in_turn, normal_form, letters_of, all_forms}
 use Rattle.normal_form.specs.Alike.{Telling, tellings, first_telling, telling, told, ToldApart}
 
 -- whether two lists of numbers are the same
@@ -32,7 +32,7 @@ alike_same (x ∷ xs) = ap (λ b. b && alike_lists xs xs) (eq-eqb x x refl) ∙ 
 
 -- the awards of a form on all nine problems, one after the other
 abbrev awards_of : Parts → List ℕ
-awards_of p = flat_map (told (field_letters p)) tellings
+awards_of p = flat_map (told (letters_of p)) tellings
 
 -- whether a list stands nowhere in a list of lists
 abbrev nowhere : List ℕ → List (List ℕ) → Bool
@@ -203,7 +203,7 @@ abbrev listed : Parts → Bool
 listed p = cond (well_placed p.order p.truncation p.rights) (found p all_forms) true
 
 abbrev reached : Parts → Bool
-reached p = cond (well_placed p.order p.truncation p.rights) (same_form (normal_form (field_letters p)) p) true
+reached p = cond (well_placed p.order p.truncation p.rights) (same_form (normal_form (letters_of p)) p) true
 
 all_listed : every_parts listed ≡ true
 all_listed = refl
@@ -214,10 +214,10 @@ all_reached = refl
 pub form_listed : (p : Parts) → WellPlaced p → Has all_forms p
 form_listed p fits = found_has p all_forms (sym (cond-true (well_placed p.order p.truncation p.rights) (found p all_forms) true fits) ∙ every_parts_at listed all_listed p)
 
-pub form_reached : (p : Parts) → WellPlaced p → normal_form (field_letters p) ≡ p
+pub form_reached : (p : Parts) → WellPlaced p → normal_form (letters_of p) ≡ p
 form_reached p fits =
-    same_form_is (normal_form (field_letters p)) p
-    (sym (cond-true (well_placed p.order p.truncation p.rights) (same_form (normal_form (field_letters p)) p) true fits) ∙ every_parts_at reached all_reached p)
+    same_form_is (normal_form (letters_of p)) p
+    (sym (cond-true (well_placed p.order p.truncation p.rights) (same_form (normal_form (letters_of p)) p) true fits) ∙ every_parts_at reached all_reached p)
 
 -- a form stands at each place of a list of forms, and past its end
 abbrev all_fit : List Parts → Bool
@@ -278,20 +278,20 @@ first_difference a b (t ∷ ts) differ =
     ]
 
 -- different forms give different awards on one of the nine problems
-pub forms_told_apart : (p q : Parts) → WellPlaced p → WellPlaced q → (p ≡ q → ⊥) → ToldApart (field_letters p) (field_letters q)
+pub forms_told_apart : (p q : Parts) → WellPlaced p → WellPlaced q → (p ≡ q → ⊥) → ToldApart (letters_of p) (letters_of q)
 forms_told_apart p q fits fits' differ =
     let here = form_listed p fits in
     let there = form_listed q fits' in
     let apart : awards_of p ≡ awards_of q → ⊥ = λ e.
     let one : here.0 ≡ there.0 = same_place here.0 there.0 here.1 there.1 (ap awards_of (here.2 no_letters) ∙ e ∙ sym (ap awards_of (there.2 no_letters))) in
     differ (sym (here.2 no_letters) ∙ ap (λ k. get_or all_forms k no_letters) one ∙ there.2 no_letters) in
-    let found_at = first_difference (told (field_letters p)) (told (field_letters q)) tellings apart in
+    let found_at = first_difference (told (letters_of p)) (told (letters_of q)) tellings apart in
     let back : found_at.0 ≡ suc found_at.0 - 1 = omega arith in
     record {
       number = suc found_at.0;
       from_one = omega arith;
       to_nine = omega (arith, found_at.1);
-      differ = subst (λ n. told (field_letters p) (get_or tellings n first_telling) ≡ told (field_letters q) (get_or tellings n first_telling) → ⊥) back found_at.2;
+      differ = subst (λ n. told (letters_of p) (get_or tellings n first_telling) ≡ told (letters_of q) (get_or tellings n first_telling) → ⊥) back found_at.2;
     }
 
 -- a class list whose classes all lie between 1 and 8

@@ -5,7 +5,7 @@ use Rattle.normal_form.specs.declared.letter.Operator.{Operator}
 use Rattle.normal_form.specs.declared.letter.Operator.TheVariants.{Dual, Truncation, MinimalRights}
 use Rattle.normal_form.specs.declared.form.Order.{Order}
 use Rattle.normal_form.specs.declared.form.Order.TheVariants.{Unordered, SeniorFirst, JuniorFirst}
-use Rattle.normal_form.specs.Forms.{Parts, where_so, seniority_letter, is_inner, is_outer, byte_of, field_letters}
+use Rattle.normal_form.specs.Forms.{Parts, where_so, seniority_letter, is_inner, is_outer, byte_of, letters_of}
 use Rattle.normal_form.specs.FormText.{as_text, dual_byte, inner_byte, outer_byte, order_byte, Begins}
 
 -- one byte more
@@ -35,7 +35,7 @@ six : (a b c d e f : List ℕ) → (((((([] ++ a) ++ b) ++ c) ++ d) ++ e) ++ f) 
 six a b c d e f = simp append_assoc
 
 -- the six bytes, each where it is present, are the letters of the form
-six_bytes : (p : Parts) → (((((([] ++ as_text (dual_byte p.dual)) ++ as_text (inner_byte p.truncation 116)) ++ as_text (inner_byte p.rights 109)) ++ as_text (order_byte p.order)) ++ as_text (outer_byte p.truncation 116)) ++ as_text (outer_byte p.rights 109)) ≡ map byte_of (field_letters p)
+six_bytes : (p : Parts) → (((((([] ++ as_text (dual_byte p.dual)) ++ as_text (inner_byte p.truncation 116)) ++ as_text (inner_byte p.rights 109)) ++ as_text (order_byte p.order)) ++ as_text (outer_byte p.truncation 116)) ++ as_text (outer_byte p.rights 109)) ≡ map byte_of (letters_of p)
 six_bytes p =
     let d = where_so p.dual Dual in
     let it = where_so (is_inner p.truncation) Truncation in
@@ -43,7 +43,7 @@ six_bytes p =
     let s = seniority_letter p.order in
     let ot = where_so (is_outer p.truncation) Truncation in
     let om = where_so (is_outer p.rights) MinimalRights in
-    let apart : map byte_of (field_letters p) ≡ map byte_of d ++ (map byte_of it ++ (map byte_of im ++ (map byte_of s ++ (map byte_of ot ++ map byte_of om)))) =
+    let apart : map byte_of (letters_of p) ≡ map byte_of d ++ (map byte_of it ++ (map byte_of im ++ (map byte_of s ++ (map byte_of ot ++ map byte_of om)))) =
     map-append byte_of d (it ++ (im ++ (s ++ (ot ++ om))))
     ∙ ap (λ xs. map byte_of d ++ xs) (map-append byte_of it (im ++ (s ++ (ot ++ om)))
     ∙ ap (λ xs. map byte_of it ++ xs) (map-append byte_of im (s ++ (ot ++ om))
@@ -65,5 +65,5 @@ six_bytes p =
     ∙ sym apart
 
 pub six_options : (p : Parts) (a b c d e f : Option ℕ) → a ≡ dual_byte p.dual → b ≡ inner_byte p.truncation 116 → c ≡ inner_byte p.rights 109 → d ≡ order_byte p.order → e ≡ outer_byte p.truncation 116 → f ≡ outer_byte p.rights 109
-    → (((((([] ++ as_text a) ++ as_text b) ++ as_text c) ++ as_text d) ++ as_text e) ++ as_text f) ≡ map byte_of (field_letters p)
+    → (((((([] ++ as_text a) ++ as_text b) ++ as_text c) ++ as_text d) ++ as_text e) ++ as_text f) ≡ map byte_of (letters_of p)
 six_options p a b c d e f is-a is_b is_c is-d is-e is_f = rw (is-a, is_b, is_c, is-d, is-e, is_f) (six_bytes p)

@@ -10,7 +10,7 @@ use Rattle.operators.specs.SeniorityLawful.{seniority_lawful, reverse_seniority_
 use Rattle.normal_form.specs.declared.letter.Operator.{Operator}
 use Rattle.normal_form.specs.declared.letter.Operator.TheVariants.{Dual, Truncation, MinimalRights, Seniority, ReverseSeniority}
 use Rattle.normal_form.specs.Letters.{operator, applied}
-use Rattle.normal_form.specs.Forms.{Parts, where_so, seniority_letter, is_inner, is_outer, field_letters}
+use Rattle.normal_form.specs.Forms.{Parts, where_so, seniority_letter, is_inner, is_outer, letters_of}
 use Rattle.normal_form.specs.Alike.{Agree}
 use Rattle.normal_form.proofs.Agreement.{under_dual, under_truncation, under_rights}
 use Rattle.normal_form.proofs.Seniority.{in_class, under_order}
@@ -46,7 +46,7 @@ applied_joined [] later classes f = refl
 applied_joined (o ∷ os) later classes f = applied_joined os later classes (operator o classes f)
 
 -- what the letters of a form make of a rule, layer by layer, each layer there or not
-pub applied_form : (p : Parts) (classes : List ℕ) (f : Meaning) → applied (field_letters p) classes f
+pub applied_form : (p : Parts) (classes : List ℕ) (f : Meaning) → applied (letters_of p) classes f
     ≡ applied (where_so (is_outer p.rights) MinimalRights) classes
     (applied (where_so (is_outer p.truncation) Truncation) classes
     (applied (seniority_letter p.order) classes

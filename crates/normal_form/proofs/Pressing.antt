@@ -12,7 +12,7 @@ use Rattle.normal_form.specs.declared.form.Order.TheVariants.{Unordered, SeniorF
 use Rattle.normal_form.specs.declared.form.Place.{Place}
 use Rattle.normal_form.specs.declared.form.Place.TheVariants.{Absent, Inner, Outer}
 use Rattle.normal_form.specs.Letters.{operator, applied}
-use Rattle.normal_form.specs.Forms.{Parts, where_so, seniority_letter, is_inner, is_outer, reversed, laid, enclosed, pressed, pressed_in_turn, no_letters, normal_form, field_letters}
+use Rattle.normal_form.specs.Forms.{Parts, where_so, seniority_letter, is_inner, is_outer, reversed, laid, enclosed, pressed, pressed_in_turn, no_letters, normal_form, letters_of}
 use Rattle.normal_form.specs.Alike.{Agree}
 use Rattle.normal_form.specs.Laws.{is_seniority}
 use Rattle.normal_form.proofs.Agreement.{agree, turned, then}
@@ -334,7 +334,7 @@ module _ (classes : List ℕ) (classed : Classed classes) where
   press_in_turn (o ∷ os) p x = follow (under_all os (press p o x)) (press_in_turn os (pressed p o) x)
 
   -- a form laid on a rule is its letters laid on it in turn
-  laid_letters : (p : Parts) (x : LawfulRule) → lay_all (field_letters p) x ≡ layers p x
+  laid_letters : (p : Parts) (x : LawfulRule) → lay_all (letters_of p) x ≡ layers p x
   laid_letters p x =
       let d = where_so p.dual Dual in
       let it = where_so (is_inner p.truncation) Truncation in
@@ -349,7 +349,7 @@ module _ (classes : List ℕ) (classed : Classed classes) where
       ∙ lay_all_joined ot om (lay_all s (lay_all im (lay_all it (lay_all d x))))
 
   -- a string and the letters of its normal form, laid on a rule
-  form_same : (letters : List Operator) (x : LawfulRule) → Same (lay_all letters x) (lay_all (field_letters (normal_form letters)) x)
+  form_same : (letters : List Operator) (x : LawfulRule) → Same (lay_all letters x) (lay_all (letters_of (normal_form letters)) x)
   form_same letters x = subst (λ y. Same (lay_all letters x) y) (sym (laid_letters (normal_form letters) x)) (press_in_turn letters no_letters x)
 
   -- agreement of strings laid on a rule, as agreement of what they make of its meaning
@@ -360,5 +360,5 @@ module _ (classes : List ℕ) (classed : Classed classes) where
   }
 
   -- a string makes the same of a lawful rule as the letters of its normal form
-  pub form_agrees : (letters : List Operator) (f : Meaning) → Lawful f → Agree (applied letters classes f) (applied (field_letters (normal_form letters)) classes f)
-  form_agrees letters f law = strings_agree letters (field_letters (normal_form letters)) (record { meaning = f; lawful = law }) (form_same letters (record { meaning = f; lawful = law }))
+  pub form_agrees : (letters : List Operator) (f : Meaning) → Lawful f → Agree (applied letters classes f) (applied (letters_of (normal_form letters)) classes f)
+  form_agrees letters f law = strings_agree letters (letters_of (normal_form letters)) (record { meaning = f; lawful = law }) (form_same letters (record { meaning = f; lawful = law }))

@@ -4,7 +4,7 @@ use Rattle.operators.specs.Operators.{Classed}
 use Rattle.normal_form.specs.declared.letter.Operator.{Operator}
 use Rattle.normal_form.specs.declared.letter.Operator.TheVariants.{Dual, Truncation, MinimalRights, Seniority, ReverseSeniority}
 use Rattle.normal_form.specs.Letters.{applied}
-use Rattle.normal_form.specs.Forms.{normal_form, field_letters}
+use Rattle.normal_form.specs.Forms.{normal_form, letters_of}
 use Rattle.normal_form.specs.Alike.{Alike, telling, told}
 use Rattle.normal_form.specs.Laws as law
 use Rattle.normal_form.proofs.Piles.{applied_lawful, applied_agree, applied_joined}
@@ -107,11 +107,11 @@ form_says_all letters f lawful classes classed claims estate sound = (press.form
 pub same_form_alike : law.SameFormAlike
 same_form_alike left right e f lawful classes classed claims estate sound =
     form_says_all left f lawful classes classed claims estate sound
-    ∙ ap (λ p. applied (field_letters p) classes f claims estate) e
+    ∙ ap (λ p. applied (letters_of p) classes f claims estate) e
     ∙ sym (form_says_all right f lawful classes classed claims estate sound)
 
 -- a string's awards on one of the nine problems are those of its normal form
-told_by_form : (letters : List Operator) (n : ℕ) → apart.Answerable (telling n) → told letters (telling n) ≡ told (field_letters (normal_form letters)) (telling n)
+told_by_form : (letters : List Operator) (n : ℕ) → apart.Answerable (telling n) → told letters (telling n) ≡ told (letters_of (normal_form letters)) (telling n)
 told_by_form letters n a =
     let t = telling n in
     form_says_all letters t.rule a.lawful t.classes a.classed t.claims t.estate a.sound

@@ -106,8 +106,8 @@ seniority_letter SeniorFirst = Seniority ∷ []
 seniority_letter JuniorFirst = ReverseSeniority ∷ []
 
 -- the letters of a form: d, inner t, inner m, the seniority letter, outer t, outer m, without what is absent
-abbrev pub field_letters : Parts → List Operator
-field_letters p =
+abbrev pub letters_of : Parts → List Operator
+letters_of p =
     where_so p.dual Dual
     ++ (where_so (is_inner p.truncation) Truncation
     ++ (where_so (is_inner p.rights) MinimalRights
@@ -130,7 +130,7 @@ or_hyphen (b ∷ bs) = b ∷ bs
 
 -- how a form is written: its letters, or a hyphen if it has none
 abbrev pub written : Parts → List ℕ
-written p = or_hyphen (map byte_of (field_letters p))
+written p = or_hyphen (map byte_of (letters_of p))
 
 -- the forms with one answer for d, one seniority letter and some places to choose from
 abbrev pub forms_beside : Bool → Order → List Place → List Parts

@@ -7,7 +7,7 @@ use Rattle.operators.specs.Operators.{Classed}
 use Rattle.normal_form.specs.declared.letter.Operator.{Operator}
 use Rattle.normal_form.specs.declared.letter.Operator.TheVariants.{Dual, Truncation, MinimalRights, Seniority, ReverseSeniority}
 use Rattle.normal_form.specs.Letters.{applied}
-use Rattle.normal_form.specs.Forms.{Parts, WellPlaced, normal_form, field_letters, no_letters, all_forms}
+use Rattle.normal_form.specs.Forms.{Parts, WellPlaced, normal_form, letters_of, no_letters, all_forms}
 use Rattle.normal_form.specs.Alike.{Agree, Alike, ToldApart}
 
 -- whether a letter is a seniority letter
@@ -111,7 +111,7 @@ pub record StringLaws : Type 0 where
 
 -- a string is alike to the letters of its normal form
 abbrev pub FormSaysAll : Type 0
-FormSaysAll = (letters : List Operator) → Alike letters (field_letters (normal_form letters))
+FormSaysAll = (letters : List Operator) → Alike letters (letters_of (normal_form letters))
 
 -- strings with the same normal form are alike
 abbrev pub SameFormAlike : Type 0
@@ -127,7 +127,7 @@ ToldApartNotAlike = (left right : List Operator) → ToldApart left right → Al
 
 -- the normal form of a string is a form, and each form is the normal form of its own letters
 abbrev pub FormsReached : Type 0
-FormsReached = ((letters : List Operator) → WellPlaced (normal_form letters)) × ((p : Parts) → WellPlaced p → normal_form (field_letters p) ≡ p)
+FormsReached = ((letters : List Operator) → WellPlaced (normal_form letters)) × ((p : Parts) → WellPlaced p → normal_form (letters_of p) ≡ p)
 
 -- there are just 44 forms: the list of all forms has 44 places, a form stands at each, no form stands at two of them,
 -- and every form stands at one

@@ -4,7 +4,7 @@ ghost use Rattle.std.specs.Prelude.{◌≡◌, true, length, Some, None, MatchRe
 ghost use Rattle.division.specs.Refusals.{SmallestOf, answer, unless_due};
 ghost use Rattle.normal_form.specs.declared.pile.PileRefusal.TheVariants.{Rule as OfRule, Class as OfClass, Letter as OfLetter};
 ghost use Rattle.normal_form.specs.Letters.{applied};
-ghost use Rattle.normal_form.specs.Forms.{field_letters, normal_form};
+ghost use Rattle.normal_form.specs.Forms.{letters_of, normal_form};
 ghost use Rattle.normal_form.specs.FormParts.{parts};
 ghost use Rattle.normal_form.specs.Laws.{LawfulUnderLetters};
 ghost use Rattle.normal_form.specs.Piles.{pile_number, PileApplies, pile_due, all_letters, operators_in};
@@ -103,7 +103,7 @@ pub fn apply_form<R: Rule>(
     out: &mut [u32],
 ) -> Result<(), PileRefusal>
     ensures result { result ≡ answer (pile_due true classes.now claims.now estate (length out.old)) tt }
-    ensures awards { out.new ≡ unless_due (pile_due true classes.now claims.now estate (length out.old)) (applied (field_letters (parts form.now)) classes.now (R.Rule.awards rule.now) claims.now estate) out.old }
+    ensures awards { out.new ≡ unless_due (pile_due true classes.now claims.now estate (length out.old)) (applied (letters_of (parts form.now)) classes.now (R.Rule.awards rule.now) claims.now estate) out.old }
     ensures smallest { SmallestOf pile_number (PileApplies true classes.now claims.now estate (length out.old)) (pile_due true classes.now claims.now estate (length out.old)) }
 {
     check_pile(classes, claims, estate, out.len())?;

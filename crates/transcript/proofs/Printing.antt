@@ -5,7 +5,7 @@ use Rattle.std.proofs.ByRecursion.{All-append, All-weaker}
 use Rattle.std.proofs.lemmas.Bool.{cond_both, cond-true, cond-false, and_parts, not-true, eqb-false, ne_eqb, ltb-true, ltb-false}
 use Rattle.normal_form.specs.declared.letter.Operator.{Operator}
 use Rattle.normal_form.specs.declared.letter.Operator.TheVariants.{Dual, Truncation, MinimalRights, Seniority, ReverseSeniority}
-use Rattle.normal_form.specs.Forms.{Parts, byte_of, field_letters, or_hyphen, written}
+use Rattle.normal_form.specs.Forms.{Parts, byte_of, letters_of, or_hyphen, written}
 use Rattle.cases.specs.declared.row.Row.{Row}
 use Rattle.cases.specs.declared.row.Posting.{Posting}
 use Rattle.casefile.specs.Marks.{joined_by, in_front, Without}
@@ -100,7 +100,7 @@ hyphen_plain [] h = (((λ e. omega arith), (λ e. omega arith)), tt)
 hyphen_plain (b ∷ bs) h = h
 
 form_plain : (p : Parts) → All Plain (written p)
-form_plain p = hyphen_plain (map byte_of (field_letters p)) (letters_plain (field_letters p))
+form_plain p = hyphen_plain (map byte_of (letters_of p)) (letters_plain (letters_of p))
 
 -- a line of plain fields is read again as these fields
 

@@ -5,7 +5,7 @@ ghost use Rattle.division.specs.Refusals.{due};
 ghost use Rattle.operators.specs.Operators.{Classed, served};
 ghost use Rattle.operators.specs.Classes.{order_of};
 ghost use Rattle.normal_form.specs.Letters.{applied};
-ghost use Rattle.normal_form.specs.Forms.{field_letters};
+ghost use Rattle.normal_form.specs.Forms.{letters_of};
 ghost use Rattle.normal_form.specs.FormParts.{parts};
 ghost use Rattle.normal_form.specs.Layers.{from_outer_rights, from_outer_truncation, from_seniority, from_inner_rights, from_inner_truncation};
 
@@ -31,7 +31,7 @@ pub(crate) fn under_form<R: Rule>(
     requires sound { due claims.now estate (length out.old) ≡ None }
     requires classed { Classed classes.now }
     ensures result { result ≡ Ok tt }
-    ensures awards { out.new ≡ applied (field_letters (parts form.now)) classes.now (R.Rule.awards rule.now) claims.now estate }
+    ensures awards { out.new ≡ applied (letters_of (parts form.now)) classes.now (R.Rule.awards rule.now) claims.now estate }
 {
     if form.dual {
         inner_truncation(

@@ -1,6 +1,6 @@
 // How a form is written.
 ghost use Rattle.std.specs.Prelude.{◌≡◌, ℕ, ◌+◌, ◌<◌, ◌≤◌, List, ◌++◌, map, length, drop};
-ghost use Rattle.normal_form.specs.Forms.{written, byte_of, field_letters};
+ghost use Rattle.normal_form.specs.Forms.{written, byte_of, letters_of};
 ghost use Rattle.normal_form.specs.FormParts.{parts};
 ghost use Rattle.normal_form.specs.FormText.{as_text, dual_byte, inner_byte, outer_byte, order_byte, Begins};
 
@@ -63,7 +63,7 @@ impl Form {
     // Writes the letters of the form into the front of `out`, and answers how many there are.
     fn write_letters(&self, out: &mut [u8; 6]) -> usize
         ensures few { result ≤ 6 }
-        ensures text { Begins (map byte_of (field_letters (parts self.now))) result out.new out.old }
+        ensures text { Begins (map byte_of (letters_of (parts self.now))) result out.new out.old }
     {
         let size = put(out, 0, dual(self.dual));
         let size = put(out, size, inner(self.truncation, b't'));

@@ -1,18 +1,17 @@
-use Rattle.std.proofs.Common.{◌≡◌, ℕ, ◌+◌, List, [], ◌∷◌, ◌++◌, map, length, get_or, take, drop, set, sym, refl, ap, ◌∙◌, subst, arith, rules}
+use Rattle.std.proofs.Common.{◌≡◌, ◌++◌, map, length, get_or, take, drop, set, sym, ap, ◌∙◌, subst, arith}
 use Rattle.std.specs.List.{AllByRecursion as All}
 use Rattle.std.proofs.lemmas.List.{map_more, take_all, drop_all, append-nil}
 use Rattle.std.proofs.ByRecursion.{All-push}
 use Rattle.std.proofs.lemmas.Int.{ints}
-use Rattle.cases.specs.declared.row.Row.{Row}
 use Rattle.cases.specs.Rows.{no_row, settled, row_posting, balance, Postable}
 use Rattle.cases.proofs.Payments.{mapped_more, next_as_was, balance_push}
 use Rattle.cases.proofs.posting.settle_all.Goals as goal
 
-pub overflow-add-sum : goal.overflow-add-sum
-overflow-add-sum c = omega (arith, ints, c.settle-posting.ensures.bound, c.loop-i.invariant.3, c.loop-i.invariant.4)
+pub overflow_add-sum : goal.overflow_add-sum
+overflow_add-sum c = omega (arith, ints, c.settle-posting.ensures.bound, c.loop-i.invariant.3, c.loop-i.invariant.4)
 
 -- the row in turn is still as it was before the loop
-in-turn : (c : goal.After-struct-told·1) → get_or c.loop-i.rows c.loop-i.i no_row ≡ get_or c.args.rows.now c.loop-i.i no_row
+in-turn : (c : goal.After-struct_told-1) → get_or c.loop-i.rows c.loop-i.i no_row ≡ get_or c.args.rows.now c.loop-i.i no_row
 in-turn c = ap (λ rows. get_or rows c.loop-i.i no_row) c.loop-i.invariant.0 ∙ next_as_was c.args.rows.now c.loop-i.i no_row c.loop-i-test.true
 
 pub loop-i-preserved : goal.loop-i-preserved

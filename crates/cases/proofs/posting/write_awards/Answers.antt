@@ -1,4 +1,4 @@
-use Rattle.std.proofs.Common.{get_or, set, sym, ap, ◌∙◌, arith}
+use Rattle.std.proofs.Common.{get_or, set, sym, ap, ◌∙◌}
 use Rattle.cases.specs.Rows.{no_row, set_award}
 use Rattle.cases.proofs.Payments.{awards_none, awards_more, awards_all}
 use Rattle.cases.proofs.posting.write_awards.Goals as goal

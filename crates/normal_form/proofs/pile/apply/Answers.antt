@@ -2,7 +2,7 @@ use Rattle.std.proofs.Common.{length, Err, sym, ap, ◌∙◌}
 use Rattle.std.proofs.lemmas.Result.{err_from_is_err_and}
 use Rattle.division.specs.Refusals.{answer, unless_due}
 use Rattle.normal_form.specs.Letters.{applied}
-use Rattle.normal_form.specs.Forms.{field_letters}
+use Rattle.normal_form.specs.Forms.{letters_of}
 use Rattle.normal_form.specs.Piles.{all_letters, operators_in}
 use Rattle.normal_form.proofs.Laying.{sound_if_none_due}
 use Rattle.normal_form.proofs.Piles.{applied_lawful}
@@ -49,7 +49,7 @@ returns g c =
     record {
       result = ap (λ o. answer o tt) (sym passed);
       awards = c.under_form.ensures.awards
-          ∙ ap (λ p. applied (field_letters p) classes meaning claims estate) told.2
+          ∙ ap (λ p. applied (letters_of p) classes meaning claims estate) told.2
           ∙ sym (form_says_all letters meaning (g.R.Rule.lawful rule) classes classed claims estate sound)
           ∙ ap (λ o. unless_due o (applied letters classes meaning claims estate) c.args.out.now) (sym passed);
       smallest = pile_smallest (all_letters c.args.letters.now) classes claims estate room;

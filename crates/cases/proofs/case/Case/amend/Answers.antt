@@ -1,4 +1,4 @@
-use Rattle.std.proofs.Common.{◌≡◌, false, List, Ok, Err, sym, ap, ◌∙◌}
+use Rattle.std.proofs.Common.{false, List, Ok, Err, ap, ◌∙◌}
 use Rattle.division.specs.Refusals.{answer, unless_due}
 use Rattle.cases.specs.declared.row.Row.{Row}
 use Rattle.cases.specs.Cases.{View, amended}

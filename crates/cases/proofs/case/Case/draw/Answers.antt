@@ -1,4 +1,4 @@
-use Rattle.std.proofs.Common.{◌≡◌, ℕ, List, length, Ok, Err, Result, sym, ap, ◌∙◌}
+use Rattle.std.proofs.Common.{ℕ, List, length, Ok, Err, Result, ap, ◌∙◌}
 use Rattle.division.specs.Amounts.{total}
 use Rattle.division.specs.Refusals.{answer, unless_due}
 use Rattle.cases.specs.declared.row.Row.{Row}
@@ -26,6 +26,6 @@ returns-in-None c =
     let rows = c.rows-rows.result.now in
     let with-total : ℕ → Result Sheet CaseRefusal = λ t. Ok (record { number = v.number; rows = length rows; total = t }) in
     let with_rows : List Row → Result Sheet CaseRefusal = λ rs. Ok (record { number = v.number; rows = length rs; total = total (awards_of rs) }) in
-    let result = ap with-total c.total-award.ensures.result ∙ ap with_rows c.rows-rows.ensures.result ∙ ap (λ o. answer o (sheet_of v)) due in
+    let result = ap with-total c.total_award.ensures.result ∙ ap with_rows c.rows-rows.ensures.result ∙ ap (λ o. answer o (sheet_of v)) due in
     let after = ap (λ o. unless_due o (drawn v) v) due in
     record { result = result; case = after; history = continues (Draw _) v (drawn v) (result, after) }

@@ -4,5 +4,5 @@ use Rattle.cases.proofs.case.Case.holds.Goals as goal
 
 pub returns : goal.returns
 returns c = record {
-  result = c.is-some.ensures ∙ found_on_table (vec_items c.args.self.now.table.rows) c.args.number c.place-of.result c.place-of.ensures.result;
+  result = c.is_some.ensures ∙ found_on_table (vec_items c.args.self.now.table.rows) c.args.number c.place_of.result c.place_of.ensures.result;
 }

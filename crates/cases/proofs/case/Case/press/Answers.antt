@@ -1,8 +1,7 @@
-use Rattle.std.proofs.Common.{◌≡◌, false, Ok, Err, sym, ap, ◌∙◌}
+use Rattle.std.proofs.Common.{false, Ok, Err, sym, ap, ◌∙◌}
 use Rattle.division.specs.Refusals.{answer, unless_due}
 use Rattle.normal_form.specs.Letters.{letters_in}
 use Rattle.normal_form.specs.Forms.{Parts}
-use Rattle.normal_form.specs.FormParts.{parts}
 use Rattle.cases.specs.declared.refusal.CaseRefusal.TheVariants.{Letter, SheetOut}
 use Rattle.cases.specs.Cases.{View, letters_pressed}
 use Rattle.cases.specs.Ledger.{Press}
@@ -39,6 +38,6 @@ returns-else-self c =
     let due = press_passes v letters (known_if_accepted (letters_in letters) accepted) c.if-self.false in
     let with-form : Parts → View = λ p. record { number = v.number; fund = v.fund; form = p; rows = v.rows; marked = false; out = v.out } in
     let result = ap (λ o. answer o tt) (sym due) in
-    let formed = c.press-all.ensures.form ∙ pressed_if_accepted (letters_in letters) v.form accepted in
+    let formed = c.press_all.ensures.form ∙ pressed_if_accepted (letters_in letters) v.form accepted in
     let after = ap with-form formed ∙ ap (λ o. unless_due o (letters_pressed v letters) v) (sym due) in
     record { result = result; case = after; history = continues (Press letters (Ok tt)) v (with-form _) (result, after) }

@@ -1,4 +1,4 @@
-use Rattle.std.proofs.Common.{◌≡◌, Ok, Err, ap}
+use Rattle.std.proofs.Common.{Ok, Err, ap}
 use Rattle.division.specs.Refusals.{unless_due}
 use Rattle.cases.specs.Cases.{answer_with, returned}
 use Rattle.cases.specs.Ledger.{Return}

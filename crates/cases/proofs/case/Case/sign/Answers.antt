@@ -1,9 +1,8 @@
-use Rattle.std.proofs.Common.{◌≡◌, ℕ, false, List, [], ◌++◌, length, take, drop, Ok, Err, Result, sym, refl, ap, ◌∙◌, subst}
+use Rattle.std.proofs.Common.{ℕ, false, List, [], ◌++◌, length, take, drop, Ok, Err, Result, sym, refl, ap, ◌∙◌, subst}
 use Rattle.std.specs.List.{AllByRecursion as All}
 use Rattle.std.proofs.lemmas.List.{take_at}
 use Rattle.division.specs.Refusals.{unless_due}
 use Rattle.cases.specs.declared.row.Row.{Row}
-use Rattle.cases.specs.declared.row.Posting.{Posting}
 use Rattle.cases.specs.declared.sheet.Sheet.{Sheet}
 use Rattle.cases.specs.declared.refusal.SheetRefusal.{SheetRefusal}
 use Rattle.cases.specs.Rows.{lines, Postable}

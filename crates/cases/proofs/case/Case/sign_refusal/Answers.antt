@@ -1,4 +1,4 @@
-use Rattle.std.proofs.Common.{length, vec_items, ap, arith, rules}
+use Rattle.std.proofs.Common.{length, vec_items, ap, rules}
 use lib.ListN.{length-map}
 use Rattle.std.proofs.lemmas.Bool.Decides.{nat_tests}
 use Rattle.cases.specs.Rows.{row_posting}

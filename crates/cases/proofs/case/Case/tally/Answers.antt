@@ -1,4 +1,4 @@
-use Rattle.std.proofs.Common.{◌≡◌, eqb, Ok, Err, sym, refl, ap, ◌∙◌}
+use Rattle.std.proofs.Common.{eqb, Ok, Err, refl, ap}
 use Rattle.cases.specs.Cases.{answer_with}
 use Rattle.cases.specs.Ledger.{Tally}
 use Rattle.cases.specs.CaseViews.{view}

@@ -1,12 +1,12 @@
-use Rattle.std.proofs.Common.{◌≡◌, ◌≤◌, vec_items, sym, ap, ◌∙◌, subst, arith}
+use Rattle.std.proofs.Common.{◌≤◌, vec_items, sym, ◌∙◌, subst, arith}
 use Rattle.division.specs.Amounts.{total}
 use Rattle.division.specs.Problem.{most_total}
 use Rattle.cases.specs.Rows.{amounts}
 use Rattle.cases.proofs.Searches.{amount_at, amount_nowhere}
 use Rattle.cases.proofs.table.Table.amend.Goals as goal
 
-pub amend-at-requires : goal.amend-at-requires
-amend-at-requires c =
+pub amend_at-requires : goal.amend_at-requires
+amend_at-requires c =
     let rows = vec_items c.args.self.now.rows in
     let found = c.in-Some.ensures.result in
     record {
@@ -17,7 +17,7 @@ amend-at-requires c =
 pub returns-in-Some : goal.returns-in-Some
 returns-in-Some c =
     let rows = vec_items c.args.self.now.rows in
-    record { rows = c.amend-at.ensures.rows ∙ sym (amount_at rows c.args.number c.args.amount c.in-Some.place c.in-Some.ensures.result) }
+    record { rows = c.amend_at.ensures.rows ∙ sym (amount_at rows c.args.number c.args.amount c.in-Some.place c.in-Some.ensures.result) }
 
-pub returns-in-default : goal.returns-in-default
-returns-in-default c = record { rows = sym (amount_nowhere (vec_items c.args.self.now.rows) c.args.number c.args.amount c.in-default.ensures.result) }
+pub returns-in_default : goal.returns-in_default
+returns-in_default c = record { rows = sym (amount_nowhere (vec_items c.args.self.now.rows) c.args.number c.args.amount c.in_default.ensures.result) }
