@@ -1,5 +1,7 @@
 // Tests of the calls of a case: refusals in their order, the sheet, and the postings of an interim series. A sheet can
 // not be let go, so the helpers below give each one back, and the proofs show that its own case takes it.
+#![tactic(auto)]
+
 ghost use Rattle.std.specs.Prelude.{◌≡◌, true, IfOk};
 ghost use Rattle.cases.specs.Cases.{is_its_sheet};
 ghost use Rattle.cases.specs.CaseViews.{view};

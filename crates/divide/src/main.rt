@@ -1,5 +1,7 @@
 // Works a list of estates through the four rules, some of them under letters, and prints each with its awards; then
 // compares some strings of letters by their normal forms; and works one estate through interim payments.
+#![tactic(auto)]
+
 use division::equal_awards::EqualAwards;
 use division::priority::Priority;
 use division::proportion::Proportion;

@@ -1,4 +1,6 @@
 // Tests of the rules on worked problems and at the edges, and a rule of a stranger behind the same interface.
+#![tactic(auto)]
+
 ghost use Rattle.std.specs.Prelude.{◌≡◌, ◌+◌, is_ok, if◌then◌else◌, vec_len};
 ghost use Rattle.division_tests.specs.Ballot.{ballot, ballot_lawful};
 
@@ -49,11 +51,12 @@ mod tests {
     use super::*;
     use division::proportion::Proportion;
     use division::talmud::Talmud;
-    use std::test::*;
+    use std::process::Abort;
+    use std::test::Fail;
 
     // Asks any rule, with an award list as long as the claims, and compares the awards.
     fn awards<R: Rule>(
-        rt: &HostRuntime,
+        rt: &(impl Abort + AllocGlobal),
         rule: &R,
         claims: &[u32],
         estate: u32,
@@ -62,9 +65,9 @@ mod tests {
         let mut out = vec![in rt.alloc(); 7u32; claims.len()]?;
         match rule.divide(claims, estate, &mut out) {
             Ok(()) => {
-                assert!(out.as_slice() == expected);
+                assert!(rt; out.as_slice() == expected);
                 Ok(())
-            },
+            }
             Err(_) => Err(Fail::new("refused")),
         }
     }
@@ -72,7 +75,7 @@ mod tests {
     // Asks any rule with an award list of `room` places that all hold 7, and expects the refusal with this number and
     // the list as it was.
     fn refused<R: Rule>(
-        rt: &HostRuntime,
+        rt: &(impl Abort + AllocGlobal),
         rule: &R,
         claims: &[u32],
         estate: u32,
@@ -84,9 +87,9 @@ mod tests {
         match rule.divide(claims, estate, &mut out) {
             Ok(()) => Err(Fail::new("answered")),
             Err(refusal) => {
-                assert!(refusal.number() == number && out.as_slice() == before.as_slice());
+                assert!(rt; refusal.number() == number && out.as_slice() == before.as_slice());
                 Ok(())
-            },
+            }
         }
     }
 
@@ -101,7 +104,7 @@ mod tests {
         awards(&rt, &Proportion, &[0, 0], 0, &[0, 0])
     }
 
-    fn edges<R: Rule>(rt: &HostRuntime, rule: &R) -> Result<(), Fail> {
+    fn edges<R: Rule>(rt: &(impl Abort + AllocGlobal), rule: &R) -> Result<(), Fail> {
         awards(rt, rule, &[], 0, &[])?;
         awards(rt, rule, &[1; 64], 64, &[1; 64])?;
         refused(rt, rule, &[1; 65], 65, 65, 1)?;

@@ -1,5 +1,7 @@
 // Prints the awards of every rule under many strings of letters, for comparison with a plain program that applies the
 // letters one by one (tests/plain_letters.py); and tests refusals in their order.
+#![tactic(auto)]
+
 use division::equal_awards::EqualAwards;
 use division::priority::Priority;
 use division::proportion::Proportion;
