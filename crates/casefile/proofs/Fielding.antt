@@ -1,6 +1,6 @@
 -- The fields of a line, one after the other, and what they keep of it. Assumes nothing.
 use Rattle.std.proofs.Common.{◌≡◌, ℕ, suc, ◌+◌, ◌-◌, ◌<◌, ◌≤◌, true, false, cond, eqb, List, [], ◌∷◌, ◌++◌, length, take, drop, Err, sym, refl, ap, ◌∙◌, arith}
-use Rattle.std.specs.List.{AllByRecursion as All}
+use Rattle.std.specs.List.{AllByRecursion}
 use Rattle.std.proofs.lemmas.Bool.{cond_both, cond-false, eqb-true, eqb-false, ne_eqb}
 use Rattle.std.proofs.lemmas.List.{take_rest}
 use Rattle.casefile.specs.Marks.{before, behind, in_front, joined_by, Without}
@@ -75,13 +75,13 @@ more_than_four word first second third (fourth ∷ more) some = refl
 pub too_many : (word first second third rest : List ℕ) → kind_by_fields (word ∷ first ∷ second ∷ third ∷ fields rest) ≡ Err UnknownForm
 too_many word first second third rest = more_than_four word first second third (fields rest) (some_field rest)
 
-field_front : (text rest : List ℕ) → All (λ b. b ≡ comma → ⊥) text → fields (text ++ comma ∷ rest) ≡ text ∷ fields rest
+field_front : (text rest : List ℕ) → AllByRecursion (λ b. b ≡ comma → ⊥) text → fields (text ++ comma ∷ rest) ≡ text ∷ fields rest
 field_front [] rest none = refl
 field_front (b ∷ bs) rest none =
     cond-false (eqb b comma) ([] ∷ fields (bs ++ comma ∷ rest)) (in_front b (fields (bs ++ comma ∷ rest))) (ne_eqb b comma none.0)
     ∙ ap (in_front b) (field_front bs rest none.1)
 
-field_alone : (text : List ℕ) → All (λ b. b ≡ comma → ⊥) text → fields text ≡ text ∷ []
+field_alone : (text : List ℕ) → AllByRecursion (λ b. b ≡ comma → ⊥) text → fields text ≡ text ∷ []
 field_alone [] none = refl
 field_alone (b ∷ bs) none =
     cond-false (eqb b comma) ([] ∷ fields bs) (in_front b (fields bs)) (ne_eqb b comma none.0)

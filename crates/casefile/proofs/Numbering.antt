@@ -1,6 +1,6 @@
 -- A text is read as a number exactly if it is the text of that number. Assumes nothing.
 use Rattle.std.proofs.Common.{◌≡◌, ℕ, zero, suc, ◌+◌, ◌-◌, ◌*◌, ◌/◌, ◌%◌, ◌^◌, ◌<◌, ◌≤◌, true, false, cond, not, ◌&&◌, eqb, leb, ◌⊎◌, List, [], ◌∷◌, ◌++◌, length, get_or, drop, Some, None, decimal, Option, sym, refl, ap, ◌∙◌, subst, inl, inr, add-one, arith, rules}
-use Rattle.std.proofs.lemmas.Bool.{cond_both, cond-true, cond-false, and_from, and_parts, le-leb, leb-true, eq-eqb, ne_eqb, not_true, both_ways, and_right, lt-leb}
+use Rattle.std.proofs.lemmas.Bool.{cond_both, cond-true, cond-false, and_from, and_parts, le-leb, leb-true, eq-eqb, ne_eqb, not-true, both_ways, and_right, lt-leb}
 use Rattle.std.proofs.lemmas.List.{at_drop_more, at_drop_all}
 use Rattle.std.proofs.lemmas.Str.Parse.{IsNumeralModel, IsDigitsTest, FoldsDigits, numerals_by_fold}
 use Rattle.std.proofs.lemmas.Fmt.{AppendsLastDigit, decimal_from_appends, length-decimal-le_succ, decimal-digits_value, digits_value-decimal, digits_decimal, first_decimal, decimal_nonempty, decimal_digit, decimal_step, length-decimal-le}
@@ -58,7 +58,7 @@ parts_of : (text : List ℕ) → is_number text ≡ true → Parts text
 parts_of [] e = absurd (both_ways false refl e)
 parts_of (b ∷ bs) e =
     let p = and_parts (not (needless_zero (b ∷ bs))) (all_digits (b ∷ bs)) e in
-    record { some = omega arith; plain = not_true _ p.0; all = p.1 }
+    record { some = omega arith; plain = not-true _ p.0; all = p.1 }
 
 -- where there is a byte and no needless zero, a text is a number if all its bytes are digits
 is_number_plain : (text : List ℕ) → 0 < length text → needless_zero text ≡ false → is_number text ≡ all_digits text

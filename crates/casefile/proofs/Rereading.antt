@@ -1,7 +1,7 @@
 -- A line asks for something exactly if it is the line that is written for it. Assumes nothing.
 use Rattle.std.proofs.Common.{◌≡◌, ℕ, ◌^◌, ◌<◌, ◌≤◌, Bool, true, false, cond, not, ◌&&◌, eqb, ltb, leb, List, [], ◌∷◌, length, Some, None, Ok, Err, codes, Option, Result, sym, refl, ap, ◌∙◌, subst, arith}
 use Rattle.std.specs.Str.{bytes_eq}
-use Rattle.std.proofs.lemmas.Bool.{cond_both, cond-true, cond-false, and_parts, le-ltb, ltb-false, eqb-false, not_true, leb-true}
+use Rattle.std.proofs.lemmas.Bool.{cond_both, cond-true, cond-false, and_parts, le-ltb, ltb-false, eqb-false, not-true, leb-true}
 use Rattle.std.proofs.lemmas.Slice.Eq.{bytes_eq-Decides}
 use Rattle.casefile.specs.declared.call.RuleName.{RuleName}
 use Rattle.casefile.specs.declared.call.RuleName.TheVariants.{Priority, Equal, Proportion, Talmud}
@@ -165,7 +165,7 @@ no_comma : (bs : List ℕ) → free bs ≡ true → NoComma bs
 no_comma [] e = tt
 no_comma (b ∷ bs) e =
     let p = and_parts (not (eqb b comma)) (free bs) e in
-    (eqb-false b comma (not_true (eqb b comma) p.0), no_comma bs p.1)
+    (eqb-false b comma (not-true (eqb b comma) p.0), no_comma bs p.1)
 
 digits_no_comma : (bs : List ℕ) → all_digits bs ≡ true → NoComma bs
 digits_no_comma [] e = tt

@@ -1,6 +1,6 @@
 -- Bytes parted by a mark: a file by its line ends, a line by its commas. Assumes nothing.
-use Rattle.std.specs.Prelude.{◌≡◌, ℕ, cond, List, [], ◌∷◌, ◌++◌, ◌==◌, ◌≢◌}
-use Rattle.std.specs.List.{AllByRecursion as All}
+use Rattle.std.specs.Prelude.{ℕ, cond, List, [], ◌∷◌, ◌++◌, ◌==◌, ◌≢◌}
+use Rattle.std.specs.List.{AllByRecursion}
 
 -- the bytes before the first mark, all of them where there is none
 abbrev pub before : ℕ → List ℕ → List ℕ
@@ -25,4 +25,4 @@ joined_by mark (text ∷ next ∷ texts) = text ++ (mark ∷ joined_by mark (nex
 
 -- none of the texts holds the mark
 abbrev pub Without : ℕ → List (List ℕ) → Type 0
-Without mark texts = All (λ text. All (λ b. b ≢ mark) text) texts
+Without mark texts = AllByRecursion (λ text. AllByRecursion (λ b. b ≢ mark) text) texts

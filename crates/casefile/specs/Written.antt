@@ -1,6 +1,6 @@
 -- A line written for what it asks for, and what reading keeps of it. Assumes nothing.
 use Rattle.std.specs.Prelude.{◌≡◌, ℕ, ◌≤◌, true, false, List, [], ◌∷◌, length, Ok, codes, ◌≢◌}
-use Rattle.std.specs.List.{AllByRecursion as All}
+use Rattle.std.specs.List.{AllByRecursion}
 use Rattle.casefile.specs.declared.call.RuleName.{RuleName}
 use Rattle.casefile.specs.declared.call.RuleName.TheVariants.{Priority, Equal, Proportion, Talmud}
 use Rattle.casefile.specs.Marks.{joined_by}
@@ -35,7 +35,7 @@ line_for asks = joined_by comma (fields_for asks)
 
 -- no comma is among the letters
 abbrev pub NoComma : List ℕ → Type 0
-NoComma letters = All (λ b. b ≢ comma) letters
+NoComma letters = AllByRecursion (λ b. b ≢ comma) letters
 
 -- what a line can ask for: numbers within their limits, and letters that a comma does not part
 abbrev pub Askable : Asked → Type 0

@@ -13,9 +13,9 @@ pub returns : goal.returns
 returns c =
     let file = c.args.self.now.file.now in
     let place = c.args.self.now.place in
-    let count = c.count-before.result in
+    let count = c.count_before.result in
     let counted : count ≡ length (before line_end (drop place file)) =
-    c.count-before.ensures.result ∙ ap (λ rest. length (before line_end rest)) (take_rest file place) in
+    c.count_before.ensures.result ∙ ap (λ rest. length (before line_end rest)) (take_rest file place) in
     let after_is : c.if-end-length.self ≡ min (place + count + 1) (length file) = omega arith in
     let size : count ≡ (place + count) - place = omega arith in
     record {
