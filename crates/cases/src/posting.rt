@@ -1,7 +1,7 @@
 // What is written into rows: the awards of a division, and the payment of a signed one with its postings.
 ghost use Rattle.std.specs.Prelude.{◌≡◌, ◌+◌, ◌<◌, ◌≤◌, ◌++◌, map, length, drop, pos, neg_ℤ, ◌≤ℤ◌};
 ghost use Rattle.division.specs.Problem.{most_claims};
-ghost use Rattle.std.specs.List.{AllByRecursion as All};
+ghost use Rattle.std.specs.List.{AllByRecursion};
 ghost use Rattle.cases.specs.Rows.{with_awards, settled, row_posting, balance, lines, Postable};
 
 use crate::row::{Posting, Row};
@@ -41,7 +41,7 @@ fn settle_all(rows: &mut [Row], out: &mut [Posting]) -> i64
     ensures bound { (neg_ℤ (pos 274877906944) ≤ℤ result) × (result ≤ℤ pos 274877906944) }
     ensures rows { rows.new ≡ map settled rows.old }
     ensures list { out.new ≡ map row_posting rows.old ++ drop (length rows.old) out.old }
-    ensures postings { All Postable (map row_posting rows.old) }
+    ensures postings { AllByRecursion Postable (map row_posting rows.old) }
 {
     let mut sum: i64 = 0;
     for (i, row) in rows.iter_mut().enumerate() {
@@ -60,7 +60,7 @@ pub(crate) fn write_lines(rows: &mut [Row], out: &mut [Posting]) -> usize
     ensures result { result ≡ length (lines rows.old) }
     ensures rows { rows.new ≡ map settled rows.old }
     ensures list { out.new ≡ lines rows.old ++ drop (length (lines rows.old)) out.old }
-    ensures postings { All Postable (lines rows.old) }
+    ensures postings { AllByRecursion Postable (lines rows.old) }
 {
     let count = rows.len();
     let sum = settle_all(rows, &mut out[1..]);

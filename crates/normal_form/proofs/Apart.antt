@@ -2,7 +2,7 @@
 -- Assumes nothing.
 use Rattle.std.proofs.Common.{◌≡◌, ℕ, zero, suc, ◌-◌, ◌<◌, ◌≤◌, Bool, true, false, cond, not, ◌&&◌, ◌||◌, T, eqb, leb, List, [], ◌∷◌, ◌++◌, map, length, get_or, sym, refl, ap, ◌∙◌, subst, inl, inr, arith, lit≤}
 use mathlib.Core.Bool.{beq, false≢true}
-use Rattle.std.specs.List.{flat_map, ContainsAt as Has, AllByRecursion as All}
+use Rattle.std.specs.List.{flat_map, ContainsAt as Has, AllByRecursion}
 use Rattle.std.proofs.lemmas.List.{get_or-map}
 use Rattle.std.proofs.ByRecursion.{All-get_or}
 use Rattle.std.proofs.lemmas.Bool.{cases_Bool, eqb-true, eq-eqb, and_parts, or_cases, cond-true, both_ways}
@@ -295,7 +295,7 @@ forms_told_apart p q fits fits' differ =
     }
 
 -- a class list whose classes all lie between 1 and 8
-classed_all : (classes : List ℕ) → All (λ k. (1 ≤ k) × (k ≤ last_class)) classes → Classed classes
+classed_all : (classes : List ℕ) → AllByRecursion (λ k. (1 ≤ k) × (k ≤ last_class)) classes → Classed classes
 classed_all [] h i = (omega arith, omega arith)
 classed_all (k ∷ ks) h zero = h.0
 classed_all (k ∷ ks) h (suc i) = classed_all ks h.1 i
@@ -309,7 +309,7 @@ pub record Answerable (t : Telling) : Type 0 where
 class_ok : (k : ℕ) → T (leb 1 k) → T (leb k last_class) → (1 ≤ k) × (k ≤ last_class)
 class_ok k low high = (lit≤ low, lit≤ high)
 
-nine_answerable : All Answerable tellings
+nine_answerable : AllByRecursion Answerable tellings
 nine_answerable = (
   record { lawful = priority_lawful; classed = classed_all (1 ∷ 1 ∷ []) (class_ok 1 tt tt, (class_ok 1 tt tt, tt)); sound = record { few = lit≤ tt; small = lit≤ tt; covered = lit≤ tt } },
   (

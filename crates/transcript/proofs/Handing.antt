@@ -1,6 +1,6 @@
 -- The sheet in hand stays the case's own. Assumes nothing.
 use Rattle.std.proofs.Common.{◌≡◌, ℕ, ◌<◌, ◌≤◌, Bool, true, false, not, ◌&&◌, eqb, ltb, List, [], ◌∷◌, ◌++◌, length, get_or, take, drop, Some, None, Ok, Err, Option, Result, sym, refl, ap, ◌∙◌, subst, arith}
-use Rattle.std.specs.List.{AllByRecursion as All}
+use Rattle.std.specs.List.{AllByRecursion}
 use Rattle.std.proofs.ByRecursion.{All-get_or}
 use Rattle.std.proofs.lemmas.List.{take_at, get_or-take}
 use Rattle.std.proofs.lemmas.Bool.{ltb-false}
@@ -52,7 +52,7 @@ signed_front v sheet count list old e is =
     ap (take count) (is ∙ ap (λ o. unless_due o (written ++ drop (length written) old) old) p.0) ∙ take_at written (drop (length written) old) count (sym p.1)
 
 -- each posting of the front, place by place
-pub postable_front : (count : ℕ) (list written : List Posting) → take count list ≡ written → count ≡ length written → All Postable (take count list) → PostableFront count list
+pub postable_front : (count : ℕ) (list written : List Posting) → take count list ≡ written → count ≡ length written → AllByRecursion Postable (take count list) → PostableFront count list
 postable_front count list written front long all k h =
     let within : k < length (take count list) = omega (arith, ap length front) in
     subst Postable (get_or-take count list k no_posting h) (All-get_or Postable (take count list) k no_posting within all)

@@ -1,6 +1,6 @@
 -- The postings that a printed text shows are those that were told. Assumes nothing.
 use Rattle.std.proofs.Common.{◌≡◌, ℕ, zero, suc, ◌+◌, ◌-◌, ◌*◌, ◌/◌, ◌%◌, ◌<◌, ◌≤◌, Bool, true, false, cond, not, ◌&&◌, eqb, ltb, List, [], ◌∷◌, ◌++◌, map, length, ℤ, pos, negsuc, neg_ℤ, codes, sym, refl, ap, ◌∙◌, subst, append_assoc, append-nil, arith}
-use Rattle.std.specs.List.{AllByRecursion as All}
+use Rattle.std.specs.List.{AllByRecursion}
 use Rattle.std.proofs.ByRecursion.{All-append, All-weaker}
 use Rattle.std.proofs.lemmas.Bool.{cond_both, cond-true, cond-false, and_parts, not-true, eqb-false, ne_eqb, ltb-true, ltb-false}
 use Rattle.normal_form.specs.declared.letter.Operator.{Operator}
@@ -23,14 +23,14 @@ abbrev Plain : ℕ → Type 0
 Plain b = (b ≡ comma → ⊥) × (b ≡ line_end → ⊥)
 
 abbrev pub PlainFields : List (List ℕ) → Type 0
-PlainFields fs = All (λ f. All Plain f) fs
+PlainFields fs = AllByRecursion (λ f. AllByRecursion Plain f) fs
 
 -- whether all bytes are such, for words that are written out
 abbrev all_plain : List ℕ → Bool
 all_plain [] = true
 all_plain (b ∷ bs) = not (eqb b comma) && (not (eqb b line_end) && all_plain bs)
 
-word_plain : (bs : List ℕ) → all_plain bs ≡ true → All Plain bs
+word_plain : (bs : List ℕ) → all_plain bs ≡ true → AllByRecursion Plain bs
 word_plain [] e = tt
 word_plain (b ∷ bs) e =
     let p = and_parts (not (eqb b comma)) _ e in
@@ -42,17 +42,17 @@ word_plain (b ∷ bs) e =
 abbrev Digit : ℕ → Type 0
 Digit b = (48 ≤ b) × (b ≤ 57)
 
-all_digits : (fuel n : ℕ) → All Digit (last_digits fuel n)
+all_digits : (fuel n : ℕ) → AllByRecursion Digit (last_digits fuel n)
 all_digits zero n = tt
 all_digits (suc fuel) n =
-    cond_both (ltb n 10) (digit n ∷ []) (last_digits fuel (n / 10) ++ digit (n % 10) ∷ []) (All Digit)
+    cond_both (ltb n 10) (digit n ∷ []) (last_digits fuel (n / 10) ++ digit (n % 10) ∷ []) (AllByRecursion Digit)
     (λ t. let small = ltb-true n 10 t in ((omega arith, omega arith), tt))
     (λ _. All-append Digit (last_digits fuel (n / 10)) (digit (n % 10) ∷ []) (all_digits fuel (n / 10)) ((omega arith, omega arith), tt))
 
 digit_plain : (b : ℕ) → Digit b → Plain b
 digit_plain b d = ((λ e. omega arith), (λ e. omega arith))
 
-number_plain : (n : ℕ) → All Plain (digits n)
+number_plain : (n : ℕ) → AllByRecursion Plain (digits n)
 number_plain n = All-weaker Digit Plain digit_plain (digits n) (all_digits (suc n) n)
 
 value_behind : (m : ℕ) (bs : List ℕ) (b : ℕ) → value_after m (bs ++ b ∷ []) ≡ value_after m bs * 10 + (b - 48)
@@ -69,12 +69,12 @@ value_of (suc fuel) n h =
 pub number_value : (n : ℕ) → value_after 0 (digits n) ≡ n
 number_value n = value_of (suc n) n (omega arith)
 
-signed_plain : (z : ℤ) → All Plain (signed_digits z)
+signed_plain : (z : ℤ) → AllByRecursion Plain (signed_digits z)
 signed_plain (pos n) = number_plain n
 signed_plain (negsuc n) = (((λ e. omega arith), (λ e. omega arith)), number_plain (suc n))
 
 -- no digit is a hyphen
-unsigned : (bs : List ℕ) → All Digit bs → amount_in bs ≡ pos (value_after 0 bs)
+unsigned : (bs : List ℕ) → AllByRecursion Digit bs → amount_in bs ≡ pos (value_after 0 bs)
 unsigned [] d = refl
 unsigned (b ∷ bs) d = cond-false (eqb b minus) _ _ (ne_eqb b minus (λ e. omega (arith, d.0.0)))
 
@@ -91,15 +91,15 @@ letter_plain MinimalRights = ((λ e. omega arith), (λ e. omega arith))
 letter_plain Seniority = ((λ e. omega arith), (λ e. omega arith))
 letter_plain ReverseSeniority = ((λ e. omega arith), (λ e. omega arith))
 
-letters_plain : (os : List Operator) → All Plain (map byte_of os)
+letters_plain : (os : List Operator) → AllByRecursion Plain (map byte_of os)
 letters_plain [] = tt
 letters_plain (o ∷ os) = (letter_plain o, letters_plain os)
 
-hyphen_plain : (bs : List ℕ) → All Plain bs → All Plain (or_hyphen bs)
+hyphen_plain : (bs : List ℕ) → AllByRecursion Plain bs → AllByRecursion Plain (or_hyphen bs)
 hyphen_plain [] h = (((λ e. omega arith), (λ e. omega arith)), tt)
 hyphen_plain (b ∷ bs) h = h
 
-form_plain : (p : Parts) → All Plain (written p)
+form_plain : (p : Parts) → AllByRecursion Plain (written p)
 form_plain p = hyphen_plain (map byte_of (letters_of p)) (letters_plain (letters_of p))
 
 -- a line of plain fields is read again as these fields
@@ -108,13 +108,13 @@ without_commas : (fs : List (List ℕ)) → PlainFields fs → Without comma fs
 without_commas [] h = tt
 without_commas (f ∷ fs) h = (All-weaker Plain (λ b. b ≡ comma → ⊥) (λ b p. p.0) f h.0, without_commas fs h.1)
 
-joined_plain : (fs : List (List ℕ)) → PlainFields fs → All (λ b. b ≡ line_end → ⊥) (joined_by comma fs)
+joined_plain : (fs : List (List ℕ)) → PlainFields fs → AllByRecursion (λ b. b ≡ line_end → ⊥) (joined_by comma fs)
 joined_plain [] h = tt
 joined_plain (f ∷ []) h = All-weaker Plain (λ b. b ≡ line_end → ⊥) (λ b p. p.1) f h.0
 joined_plain (f ∷ g ∷ fs) h =
     All-append (λ b. b ≡ line_end → ⊥) f (comma ∷ joined_by comma (g ∷ fs)) (All-weaker Plain (λ b. b ≡ line_end → ⊥) (λ b p. p.1) f h.0) ((λ e. omega arith), joined_plain (g ∷ fs) h.1)
 
-line_first : (line rest : List ℕ) → All (λ b. b ≡ line_end → ⊥) line → lines (line ++ line_end ∷ rest) ≡ line ∷ lines rest
+line_first : (line rest : List ℕ) → AllByRecursion (λ b. b ≡ line_end → ⊥) line → lines (line ++ line_end ∷ rest) ≡ line ∷ lines rest
 line_first [] rest h = refl
 line_first (b ∷ bs) rest h =
     cond-false (eqb b line_end) ([] ∷ lines (bs ++ line_end ∷ rest)) (in_front b (lines (bs ++ line_end ∷ rest))) (ne_eqb b line_end h.0)
@@ -129,7 +129,7 @@ line_shows fs rest some plain =
 
 -- lines that can be read again
 abbrev Readable : List (List (List ℕ)) → Type 0
-Readable ls = All (λ fs. (0 < length fs) × PlainFields fs) ls
+Readable ls = AllByRecursion (λ fs. (0 < length fs) × PlainFields fs) ls
 
 -- the postings among lines of fields
 abbrev posts_of : List (List (List ℕ)) → List Posting

@@ -1,7 +1,7 @@
 // The calls of whoever holds a sheet. A refused call hands the sheet back unchanged; sign and return spend it.
 ghost use Rattle.std.specs.Prelude.{◌≡◌, ◌++◌, length, drop, ◌==◌};
 ghost use Rattle.division.specs.Refusals.{unless_due};
-ghost use Rattle.std.specs.List.{AllByRecursion as All};
+ghost use Rattle.std.specs.List.{AllByRecursion};
 ghost use Rattle.cases.specs.Rows.{lines, Postable};
 ghost use Rattle.cases.specs.Cases.{is_its_sheet, sheet_due, sign_due, answer_with, signed, returned};
 ghost use Rattle.cases.specs.Ledger.{Tally, Sign, Return};
@@ -60,7 +60,7 @@ impl Case {
         ensures result { result ≡ answer_with (sign_due (view self.old) sheet (length out.old)) (length (lines (view self.old).rows)) sheet }
         ensures case { view self.new ≡ unless_due (sign_due (view self.old) sheet (length out.old)) (signed (view self.old)) (view self.old) }
         ensures list { out.new ≡ unless_due (sign_due (view self.old) sheet (length out.old)) (lines (view self.old).rows ++ drop (length (lines (view self.old).rows)) out.old) out.old }
-        ensures postings { All Postable (front_of result out.new) }
+        ensures postings { AllByRecursion Postable (front_of result out.new) }
         ensures history { Continues (Sign sheet (length out.old) result (front_of result out.new)) (view self.old) (view self.new) }
     {
         match self.sign_refusal(&sheet, out.len()) {

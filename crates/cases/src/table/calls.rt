@@ -1,6 +1,6 @@
 // The table's own calls: one row is lent inside a call, changed, and given back.
 ghost use Rattle.std.specs.Prelude.{◌≡◌, ◌+◌, ◌*◌, ◌<◌, ◌≤◌, true, [], ◌∷◌, ◌++◌, map, length, take, drop, IfOk, vec_len, slice_index_or, slice_set};
-ghost use Rattle.std.specs.List.{AllByRecursion as All};
+ghost use Rattle.std.specs.List.{AllByRecursion};
 ghost use Rattle.division.specs.Amounts.{total};
 ghost use Rattle.division.specs.Problem.{most_claims, most_total};
 ghost use Rattle.operators.specs.Classes.{is_class_number};
@@ -80,7 +80,7 @@ impl Table {
         ensures result { result ≡ length (lines self.old.rows.items) }
         ensures rows { self.new.rows.items ≡ map settled self.old.rows.items }
         ensures list { out.new ≡ lines self.old.rows.items ++ drop (length (lines self.old.rows.items)) out.old }
-        ensures postings { All Postable (lines self.old.rows.items) }
+        ensures postings { AllByRecursion Postable (lines self.old.rows.items) }
     {
         write_lines(self.rows.as_mut_slice(), out)
     }

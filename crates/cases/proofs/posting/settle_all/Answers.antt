@@ -1,5 +1,5 @@
 use Rattle.std.proofs.Common.{◌≡◌, ◌++◌, map, length, get_or, take, drop, set, sym, ap, ◌∙◌, subst, arith}
-use Rattle.std.specs.List.{AllByRecursion as All}
+use Rattle.std.specs.List.{AllByRecursion}
 use Rattle.std.proofs.lemmas.List.{map_more, take_all, drop_all, append-nil}
 use Rattle.std.proofs.ByRecursion.{All-push}
 use Rattle.std.proofs.lemmas.Int.{ints}
@@ -27,7 +27,7 @@ loop-i-preserved c =
       omega (arith, ints, sums, amount, c.settle-posting.ensures.bound, c.loop-i.invariant.2, c.loop-i.invariant.3, c.loop-i.invariant.4),
       omega (arith, ints, c.settle-posting.ensures.bound, c.loop-i.invariant.3, c.loop-i.invariant.4),
       omega (arith, ints, c.settle-posting.ensures.bound, c.loop-i.invariant.3, c.loop-i.invariant.4),
-      subst (All Postable) (sym (map_more row_posting rows i no_row c.loop-i-test.true))
+      subst (AllByRecursion Postable) (sym (map_more row_posting rows i no_row c.loop-i-test.true))
           (All-push Postable (map row_posting (take i rows)) (row_posting (get_or rows i no_row)) c.loop-i.invariant.5
           (subst Postable posting (omega (arith, ints, c.settle-posting.ensures.bound), omega (arith, ints, c.settle-posting.ensures.bound)))),
     )
@@ -39,7 +39,7 @@ returns c =
     let end : c.loop-i.i ≡ length rows = omega arith in
     record {
       bound = (omega (arith, ints, c.loop-i.invariant.3, c.loop-i.invariant.4), omega (arith, ints, c.loop-i.invariant.3, c.loop-i.invariant.4));
-      postings = subst (λ l. All Postable (map row_posting l)) all c.loop-i.invariant.5;
+      postings = subst (λ l. AllByRecursion Postable (map row_posting l)) all c.loop-i.invariant.5;
       result = c.loop-i.invariant.2 ∙ ap (λ l. balance (map row_posting l)) all;
       rows = c.loop-i.invariant.0 ∙ ap (λ l. map settled l ++ drop c.loop-i.i rows) all ∙ ap (λ l. map settled rows ++ l) (drop_all c.loop-i.i rows c.loop-i-test.false) ∙ append-nil (map settled rows);
       list = c.loop-i.invariant.1 ∙ ap (λ l. map row_posting l ++ drop c.loop-i.i c.args.out.now) all ∙ ap (λ n. map row_posting rows ++ drop n c.args.out.now) end;

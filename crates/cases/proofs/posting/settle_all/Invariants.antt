@@ -1,5 +1,5 @@
 use Rattle.std.proofs.Common.{◌≡◌, ◌*◌, ◌++◌, map, take, drop, pos, neg_ℤ, ◌≤ℤ◌}
-use Rattle.std.specs.List.{AllByRecursion as All}
+use Rattle.std.specs.List.{AllByRecursion}
 use Rattle.cases.specs.Rows.{settled, row_posting, balance, Postable}
 use Rattle.cases.proofs.posting.settle_all.Given as goal
 
@@ -10,4 +10,4 @@ invariant-loop-i l =
     × (l.sum ≡ balance (map row_posting (take l.i l.initial.rows)))
     × (neg_ℤ (pos (4294967296 * l.i)) ≤ℤ l.sum)
     × (l.sum ≤ℤ pos (4294967296 * l.i))
-    × All Postable (map row_posting (take l.i l.initial.rows))
+    × AllByRecursion Postable (map row_posting (take l.i l.initial.rows))

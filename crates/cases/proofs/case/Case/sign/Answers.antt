@@ -1,5 +1,5 @@
 use Rattle.std.proofs.Common.{ℕ, false, List, [], ◌++◌, length, take, drop, Ok, Err, Result, sym, refl, ap, ◌∙◌, subst}
-use Rattle.std.specs.List.{AllByRecursion as All}
+use Rattle.std.specs.List.{AllByRecursion}
 use Rattle.std.proofs.lemmas.List.{take_at}
 use Rattle.division.specs.Refusals.{unless_due}
 use Rattle.cases.specs.declared.row.Row.{Row}
@@ -51,6 +51,6 @@ returns-in-None c =
       result = result;
       case = after;
       list = list;
-      postings = subst (All Postable) (sym wrote) told.postings;
+      postings = subst (AllByRecursion Postable) (sym wrote) told.postings;
       history = continues (Sign sheet (length old) (Ok c.sign-count.result) (take c.sign-count.result c.sign-count.new.out)) v (with_rows _) (result, after, front);
     }

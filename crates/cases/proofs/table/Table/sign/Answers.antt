@@ -5,7 +5,7 @@ use Rattle.division.specs.Amounts.{total}
 use Rattle.division.specs.Problem.{most_total}
 use Rattle.operators.specs.Operators.{Classed}
 use Rattle.cases.specs.declared.row.Row.{Row}
-use Rattle.std.specs.List.{AllByRecursion as All}
+use Rattle.std.specs.List.{AllByRecursion}
 use Rattle.cases.specs.Rows.{amounts, classes_of, settled, row_posting, lines, Postable}
 use Rattle.cases.proofs.Tables.{amounts_settled, classes_settled}
 use Rattle.cases.proofs.table.Table.sign.Goals as goal
@@ -43,6 +43,6 @@ returns c =
     record {
       result = c.write_lines.ensures.result ∙ ap (λ l. length (lines l)) same;
       rows = with_items_is table.rows c.write_lines.new.rows (long rows c.write_lines.new.rows (vec_len table.rows) told table.rows.ok.0) ∙ told;
-      postings = subst (λ l. All Postable (lines l)) same c.write_lines.ensures.postings;
+      postings = subst (λ l. AllByRecursion Postable (lines l)) same c.write_lines.ensures.postings;
       list = c.write_lines.ensures.list ∙ ap (λ l. lines l ++ drop (length (lines l)) c.args.out.now) same;
     }
