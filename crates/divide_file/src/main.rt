@@ -1,4 +1,6 @@
 // Reads a case file from standard input, runs it against a new case, and prints what comes of each line.
+#![tactic(auto)]
+
 use std::io;
 use std::io::{Read, Write};
 use transcript::file::transcribe;

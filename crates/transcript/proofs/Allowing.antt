@@ -1,5 +1,5 @@
 -- A line is accepted exactly if it is allowed, and a refused line leaves in hand what was. Assumes nothing.
-use Rattle.std.proofs.Common.{◌≡◌, ℕ, Bool, true, false, cond, List, [], ◌∷◌, length, is_some, Some, None, Ok, Err, Option, Result, sym, refl, ap, ◌∙◌, subst, arith}
+use Rattle.std.proofs.Common.{◌≡◌, ℕ, true, false, List, length, is_some, Some, None, Ok, Err, Option, Result, sym, refl, ap, ◌∙◌, subst, arith}
 use Rattle.std.proofs.lemmas.Bool.{both_ways, cond_both}
 use Rattle.division.specs.Refusals.{answer, unless_due}
 use Rattle.normal_form.specs.declared.letter.Operator.{Operator}
@@ -12,7 +12,7 @@ use Rattle.cases.specs.Cases.{View, estate_of, admit_due, admitted, amend_due, a
 use Rattle.casefile.specs.declared.refusal.LineRefusal.{LineRefusal}
 use Rattle.casefile.specs.Calls.{Asked, asks_claim, asks_amend, asks_fund, asks_press, asks_divide, asks_draw, asks_sign, asks_return, asks_compare, asks_nothing, field_letters, reading}
 use Rattle.transcript.specs.Outcomes.{Told, accepted, awarded, signed_off, given_back, same_form, other_forms}
-use Rattle.transcript.specs.Turns.{InHand, answered, kept_sheet, drawn_told, drawn_sheet, sheet_told, sheet_left, posting_room, meaning_of, same_parts, on_letters, on_draw, on_sign, on_return, operators_of, forms_told, asked_turn, read_turn, turn, Allowed, LineAllowed, is_refused, Decided}
+use Rattle.transcript.specs.Turns.{InHand, answered, kept_sheet, drawn_told, drawn_sheet, sheet_told, sheet_left, posting_room, meaning_of, same_parts, on_letters, on_sign, on_return, operators_of, forms_told, asked_turn, read_turn, turn, Allowed, is_refused, Decided}
 
 -- a turn that is accepted exactly if something holds, and else leaves in hand what was
 record Settles (t : Told) (after h : InHand) (A : Type 0) : Type 0 where

@@ -1,5 +1,5 @@
 -- At the end of a file no sheet is out. Assumes nothing.
-use Rattle.std.proofs.Common.{◌≡◌, ℕ, Bool, true, false, cond, not, ◌&&◌, eqb, List, [], ◌∷◌, length, Some, None, Ok, Err, Option, Result, sym, refl, ap, ◌∙◌, subst}
+use Rattle.std.proofs.Common.{◌≡◌, ℕ, Bool, true, false, not, List, [], ◌∷◌, length, Some, None, Ok, Err, Option, Result, sym, refl, ap, ◌∙◌}
 use Rattle.std.proofs.lemmas.Bool.{eq-eqb, not-true}
 use Rattle.division.specs.Refusals.{first_due, answer, unless_due}
 use Rattle.cases.specs.declared.sheet.Sheet.{Sheet}
@@ -11,7 +11,7 @@ use Rattle.cases.specs.Cases.{View, is_its_sheet, admit_due, amend_due, fund_due
 use Rattle.casefile.specs.declared.refusal.LineRefusal.{LineRefusal}
 use Rattle.casefile.specs.Calls.{Asked, asks_claim, asks_amend, asks_fund, asks_press, asks_divide, asks_draw, asks_sign, asks_return, asks_compare, asks_nothing, field_letters, reading}
 use Rattle.transcript.specs.Hands.{in_order}
-use Rattle.transcript.specs.Turns.{InHand, drawn_sheet, sheet_left, posting_room, on_letters, on_draw, on_sign, on_return, asked_turn, read_turn, turn, ending_case}
+use Rattle.transcript.specs.Turns.{InHand, drawn_sheet, sheet_left, posting_room, on_letters, on_sign, on_return, asked_turn, read_turn, turn}
 use Rattle.transcript.specs.Files.{case_after}
 use Rattle.transcript.proofs.Handing.{kept_in_order}
 

@@ -1,6 +1,6 @@
 -- What is told of two strings of letters is what comparing them answers. Assumes nothing.
-use Rattle.std.proofs.Common.{◌≡◌, ℕ, Bool, true, false, cond, ◌&&◌, List, Some, None, Ok, Option, sym, refl, ap, ◌∙◌, arith}
-use Rattle.std.proofs.lemmas.Bool.{cond-true, cond-false, and_from, and_parts, cases_Bool, both_ways}
+use Rattle.std.proofs.Common.{◌≡◌, Bool, true, false, List, Some, None, Ok, Option, sym, refl, ap, ◌∙◌}
+use Rattle.std.proofs.lemmas.Bool.{cond-true, cond-false, and_from, and_parts, both_ways}
 use Rattle.normal_form.specs.declared.letter.Operator.{Operator}
 use Rattle.normal_form.specs.declared.form.Order.{Order}
 use Rattle.normal_form.specs.declared.form.Order.TheVariants.{Unordered, SeniorFirst, JuniorFirst}
@@ -11,7 +11,7 @@ use Rattle.normal_form.specs.declared.compare.Comparison.TheVariants.{Same, Diff
 use Rattle.normal_form.specs.Forms.{Parts, normal_form}
 use Rattle.normal_form.specs.FormParts.{parts}
 use Rattle.normal_form.specs.Comparing.{Compared}
-use Rattle.transcript.specs.Outcomes.{Told, compared, same_form, other_forms}
+use Rattle.transcript.specs.Outcomes.{compared, same_form, other_forms}
 use Rattle.transcript.specs.Turns.{same_bool, same_order, same_place, same_parts, forms_told}
 
 bool_itself : (b : Bool) → same_bool b b ≡ true

@@ -1,5 +1,5 @@
 -- The text of a whole file, line by line. Assumes nothing.
-use Rattle.std.proofs.Common.{◌≡◌, ℕ, ◌+◌, ◌-◌, ◌<◌, ◌≤◌, List, [], ◌∷◌, ◌++◌, length, take, drop, IfOk, Some, Ok, Err, Option, Result, sym, refl, ap, ◌∙◌, subst, append_assoc, arith}
+use Rattle.std.proofs.Common.{◌≡◌, ℕ, ◌+◌, ◌<◌, ◌≤◌, List, [], ◌∷◌, ◌++◌, length, take, drop, IfOk, Some, Ok, Err, Option, Result, sym, ap, ◌∙◌, subst, append_assoc}
 use Rattle.std.proofs.lemmas.List.{take_at}
 use Rattle.std.proofs.lemmas.Bool.{cond-true, cond-false, le-ltb, lt-ltb}
 use Rattle.casefile.specs.Lines.{lines}
@@ -11,7 +11,7 @@ use Rattle.transcript.specs.declared.runner.OpenRefusal.{OpenRefusal}
 use Rattle.transcript.specs.declared.runner.OpenRefusal.TheVariants.{Refused}
 use Rattle.transcript.specs.Outcomes.{told, run_number}
 use Rattle.transcript.specs.Texts.{refused_fields, as_text, text_of}
-use Rattle.transcript.specs.Turns.{InHand, new_in_hand, turn, ending}
+use Rattle.transcript.specs.Turns.{new_in_hand, turn, ending}
 use Rattle.transcript.specs.Files.{most_file, too_long, tellings, texts, file_case, transcript}
 use Rattle.transcript.specs.Running.{Run, at_start, Opened, LineRun, RunAnswered, text_left, Ran}
 

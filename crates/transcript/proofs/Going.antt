@@ -1,14 +1,13 @@
 -- Every past of a case goes on with the calls that lines make. Assumes nothing.
-use Rattle.std.proofs.Common.{◌≡◌, ℕ, List, [], ◌∷◌, ◌++◌, Some, None, Ok, Err, Option, Result, refl}
+use Rattle.std.proofs.Common.{ℕ, List, ◌++◌, Some, None, Ok, Err, Option, Result, refl}
 use Rattle.division.specs.Problem.{Lawful}
 use Rattle.division.specs.PriorityLawful.{priority_lawful}
 use Rattle.division.specs.EqualAwardsLawful.{equal_awards_lawful}
 use Rattle.division.specs.ProportionLawful.{proportion_lawful}
 use Rattle.division.specs.TalmudLawful.{talmud_lawful}
 use Rattle.cases.specs.declared.sheet.Sheet.{Sheet}
-use Rattle.cases.specs.Cases.{View}
 use Rattle.cases.specs.Ledger.{Event, Settled}
-use Rattle.cases.specs.History.{Past, made, moved}
+use Rattle.cases.specs.History.{Past, moved}
 use Rattle.cases.proofs.Histories.{always_settled}
 use Rattle.casefile.specs.declared.call.RuleName.{RuleName}
 use Rattle.casefile.specs.declared.call.RuleName.TheVariants.{Priority, Equal, Proportion, Talmud}

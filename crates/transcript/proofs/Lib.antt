@@ -1,4 +1,5 @@
 pub mod Writing
+pub mod Fitting
 pub mod Handing
 pub mod Comparing
 pub mod Going

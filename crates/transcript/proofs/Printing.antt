@@ -1,20 +1,20 @@
 -- The postings that a printed text shows are those that were told. Assumes nothing.
-use Rattle.std.proofs.Common.{◌≡◌, ℕ, zero, suc, ◌+◌, ◌-◌, ◌*◌, ◌/◌, ◌%◌, ◌<◌, ◌≤◌, Bool, true, false, cond, not, ◌&&◌, eqb, ltb, List, [], ◌∷◌, ◌++◌, map, length, ℤ, pos, negsuc, neg_ℤ, codes, sym, refl, ap, ◌∙◌, subst, append_assoc, append-nil, arith}
+use Rattle.std.proofs.Common.{◌≡◌, ℕ, zero, suc, ◌+◌, ◌-◌, ◌*◌, ◌/◌, ◌%◌, ◌<◌, ◌≤◌, Bool, true, not, ◌&&◌, eqb, ltb, List, [], ◌∷◌, ◌++◌, map, length, ℤ, pos, negsuc, neg_ℤ, codes, sym, refl, ap, ◌∙◌, append_assoc, append-nil, arith}
 use Rattle.std.specs.List.{AllByRecursion}
 use Rattle.std.proofs.ByRecursion.{All-append, All-weaker}
-use Rattle.std.proofs.lemmas.Bool.{cond_both, cond-true, cond-false, and_parts, not-true, eqb-false, ne_eqb, ltb-true, ltb-false}
+use Rattle.std.proofs.lemmas.Bool.{cond_both, cond-false, and_parts, not-true, eqb-false, ne_eqb, ltb-true, ltb-false}
 use Rattle.normal_form.specs.declared.letter.Operator.{Operator}
 use Rattle.normal_form.specs.declared.letter.Operator.TheVariants.{Dual, Truncation, MinimalRights, Seniority, ReverseSeniority}
 use Rattle.normal_form.specs.Forms.{Parts, byte_of, letters_of, or_hyphen, written}
 use Rattle.cases.specs.declared.row.Row.{Row}
 use Rattle.cases.specs.declared.row.Posting.{Posting}
 use Rattle.casefile.specs.Marks.{joined_by, in_front, Without}
-use Rattle.casefile.specs.Fields.{comma, fields}
+use Rattle.casefile.specs.Fields.{comma}
 use Rattle.casefile.specs.Lines.{line_end, lines}
 use Rattle.casefile.specs.Decimal.{digit, last_digits, digits, value_after}
 use Rattle.casefile.proofs.Fielding.{fields_joined}
 use Rattle.transcript.specs.Outcomes.{Told, nothing, accepted, awarded, sheet_drawn, signed_off, given_back, same_form, other_forms, refused, refusal_number}
-use Rattle.transcript.specs.Texts.{minus, signed_digits, award_fields, post_fields, refused_fields, printed, as_line, as_text, text_of}
+use Rattle.transcript.specs.Texts.{minus, signed_digits, award_fields, post_fields, refused_fields, printed, as_line, as_text}
 use Rattle.transcript.specs.Files.{texts}
 use Rattle.transcript.specs.Transcripts.{amount_in, posting_in, postings_among, postings_in}
 

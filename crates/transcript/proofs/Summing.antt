@@ -1,5 +1,5 @@
 -- The calls of a file are a past of its case, and what is told of them adds up to what they posted. Assumes nothing.
-use Rattle.std.proofs.Common.{◌≡◌, ℕ, true, false, cond, eqb, List, [], ◌∷◌, ◌++◌, length, ℤ, pos, ◌+ℤ◌, Some, None, Ok, Err, Option, Result, sym, refl, ap, ◌∙◌, arith}
+use Rattle.std.proofs.Common.{◌≡◌, ℕ, true, false, cond, eqb, List, [], ◌∷◌, ◌++◌, length, ℤ, pos, ◌+ℤ◌, Some, None, Ok, Err, Option, Result, sym, refl, ap, arith}
 use Rattle.std.proofs.lemmas.Int.{ints}
 use Rattle.std.proofs.lemmas.Bool.{cond_both}
 use Rattle.division.specs.Refusals.{answer, unless_due}
@@ -8,16 +8,15 @@ use Rattle.cases.specs.declared.sheet.Sheet.{Sheet}
 use Rattle.cases.specs.declared.refusal.CaseRefusal.{CaseRefusal}
 use Rattle.cases.specs.declared.refusal.SheetRefusal.{SheetRefusal}
 use Rattle.cases.specs.Rows.{lines}
-use Rattle.cases.specs.Cases.{View, estate_of, admit_due, amend_due, fund_due, press_due, divide_due, draw_due, sheet_of, sheet_due, sign_due, answer_with}
-use Rattle.cases.specs.Ledger.{Event, Sign, under, written, posted}
+use Rattle.cases.specs.Cases.{estate_of, admit_due, amend_due, fund_due, press_due, divide_due, draw_due, sheet_of, sheet_due, sign_due, answer_with}
+use Rattle.cases.specs.Ledger.{Event, Sign, under, posted}
 use Rattle.cases.specs.History.{Past}
-use Rattle.casefile.specs.declared.call.RuleName.{RuleName}
 use Rattle.casefile.specs.declared.refusal.LineRefusal.{LineRefusal}
 use Rattle.casefile.specs.Calls.{Asked, asks_claim, asks_amend, asks_fund, asks_press, asks_divide, asks_draw, asks_sign, asks_return, asks_compare, asks_nothing, field_letters, reading}
 use Rattle.normal_form.specs.declared.letter.Operator.{Operator}
 use Rattle.normal_form.specs.Forms.{normal_form}
 use Rattle.transcript.specs.Outcomes.{Told, accepted, awarded, signed_off, given_back, same_form, other_forms}
-use Rattle.transcript.specs.Turns.{InHand, Turn, answered, drawn_told, sheet_told, posting_room, on_letters, on_divide, on_draw, on_sign, on_return, same_parts, operators_of, forms_told, asked_turn, read_turn, turn, ending, ending_calls}
+use Rattle.transcript.specs.Turns.{InHand, Turn, answered, drawn_told, sheet_told, posting_room, on_letters, on_divide, on_sign, on_return, same_parts, operators_of, forms_told, asked_turn, read_turn, turn, ending}
 use Rattle.transcript.specs.Files.{tellings, calls_after, case_after}
 use Rattle.transcript.proofs.Going.{line_goes_on, return_goes_on}
 use Rattle.transcript.proofs.Printing.{told_postings, all_postings}

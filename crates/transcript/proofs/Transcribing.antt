@@ -1,13 +1,10 @@
 -- The laws of a transcript. Assumes nothing.
-use Rattle.std.proofs.Common.{◌≡◌, ℕ, true, false, cond, List, [], ◌∷◌, pos, ◌+ℤ◌, sym, refl, ap, ◌∙◌, arith}
+use Rattle.std.proofs.Common.{◌≡◌, ℕ, true, false, cond, List, [], ◌∷◌, sym, refl, ap, ◌∙◌, arith}
 use Rattle.std.proofs.lemmas.Int.{ints}
 use Rattle.std.proofs.lemmas.Bool.{both_ways}
-use Rattle.normal_form.specs.declared.letter.Operator.{Operator}
 use Rattle.normal_form.specs.Forms.{Parts, normal_form}
-use Rattle.normal_form.specs.Alike.{Alike}
 use Rattle.normal_form.proofs.Theorems as theorem
-use Rattle.cases.specs.Rows.{estate_number}
-use Rattle.cases.specs.Ledger.{Settled, posted, under, ledger}
+use Rattle.cases.specs.Ledger.{under}
 use Rattle.cases.specs.History.{Past, made}
 use Rattle.cases.proofs.Histories.{always_settled}
 use Rattle.casefile.specs.Lines.{lines}
@@ -15,7 +12,7 @@ use Rattle.transcript.specs.declared.refusal.RunRefusal.TheVariants.{FileTooLong
 use Rattle.transcript.specs.Outcomes.{run_number}
 use Rattle.transcript.specs.Texts.{refused_fields, as_text}
 use Rattle.transcript.specs.Turns.{new_in_hand, same_parts}
-use Rattle.transcript.specs.Files.{too_long, tellings, texts, file_case, lines_run, calls_of, case_of, calls_after, transcript}
+use Rattle.transcript.specs.Files.{too_long, tellings, texts, file_case, lines_run, calls_of, case_of, transcript}
 use Rattle.transcript.specs.Transcripts.{postings_in, FormsDecide, Transcribed}
 use Rattle.transcript.proofs.Comparing.{parts_itself, parts_same}
 use Rattle.transcript.proofs.Closing.{file_closed}

@@ -1,6 +1,7 @@
 -- What the code's case in hand holds, and what a call on it promises. Assumes nothing.
-use Rattle.std.specs.Prelude.{◌≡◌, List, [], ◌∷◌, Some, None, Option}
+use Rattle.std.specs.Prelude.{◌≡◌, ◌≤◌, List, [], ◌∷◌, Some, None, Option}
 use Rattle.cases.specs.CaseViews.{view}
+use Rattle.casefile.specs.Calls.{Asked, asks_claim, asks_amend, asks_fund, asks_press, asks_divide, asks_draw, asks_sign, asks_return, asks_compare, asks_nothing, most_claimant}
 use Rattle.transcript.specs.declared.in_hand.CaseInHand.{CaseInHand}
 use Rattle.transcript.specs.declared.outcome.Outcome.{Outcome}
 use Rattle.transcript.specs.Outcomes.{Told, told}
@@ -8,6 +9,19 @@ use Rattle.transcript.specs.Turns.{InHand, Turn}
 
 abbrev pub in_hand : CaseInHand → InHand
 in_hand c = record { case = view c.case; sheet = c.sheet }
+
+-- a claimant number that a line asks for has 16 bits
+abbrev pub ClaimantFits : Asked → Type 0
+ClaimantFits (asks_claim number amount class) = number ≤ most_claimant
+ClaimantFits (asks_amend number amount) = number ≤ most_claimant
+ClaimantFits (asks_fund amount) = Unit {0}
+ClaimantFits (asks_press letters) = Unit {0}
+ClaimantFits (asks_divide rule) = Unit {0}
+ClaimantFits asks_draw = Unit {0}
+ClaimantFits asks_sign = Unit {0}
+ClaimantFits asks_return = Unit {0}
+ClaimantFits (asks_compare left right) = Unit {0}
+ClaimantFits asks_nothing = Unit {0}
 
 -- an outcome, and a case in hand afterwards, that are those of a turn
 pub record Comes (t : Turn) (outcome : Outcome) (after : InHand) : Type 0 where

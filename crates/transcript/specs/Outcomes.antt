@@ -1,6 +1,5 @@
 -- What comes of a line, with its values, and the number of each refusal. Assumes nothing.
 use Rattle.std.specs.Prelude.{ℕ, List, take}
-use Rattle.normal_form.specs.declared.letter.LetterRefusal.{LetterRefusal}
 use Rattle.normal_form.specs.declared.compare.Comparison.{Comparison}
 use Rattle.normal_form.specs.declared.compare.Comparison.TheVariants.{Same, Differ}
 use Rattle.normal_form.specs.Forms.{Parts}

@@ -9,7 +9,7 @@ use Rattle.transcript.specs.declared.runner.Runner.{Runner}
 use Rattle.transcript.specs.declared.runner.Printed.{Printed}
 use Rattle.transcript.specs.declared.runner.OpenRefusal.{OpenRefusal}
 use Rattle.transcript.specs.declared.runner.OpenRefusal.TheVariants.{Refused, NoMemory}
-use Rattle.transcript.specs.Outcomes.{Told, told}
+use Rattle.transcript.specs.Outcomes.{told}
 use Rattle.transcript.specs.Texts.{text_of, least_buffer}
 use Rattle.transcript.specs.Turns.{InHand, new_in_hand, turn, Decided, ending}
 use Rattle.transcript.specs.Files.{most_file, tellings, texts}

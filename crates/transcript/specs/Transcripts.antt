@@ -1,6 +1,6 @@
 -- The laws of a transcript: what the text that is printed for a file has to do with the case, the plain ledger and the
 -- letters. Assumes nothing.
-use Rattle.std.specs.Prelude.{◌≡◌, ℕ, zero, suc, false, cond, List, [], ◌∷◌, ◌++◌, ℤ, pos, neg_ℤ, codes, ◌==◌, ◌≢◌}
+use Rattle.std.specs.Prelude.{◌≡◌, ℕ, false, cond, List, [], ◌∷◌, ◌++◌, ℤ, pos, neg_ℤ, codes, ◌==◌, ◌≢◌}
 use Rattle.std.specs.Str.{bytes_eq}
 use Rattle.normal_form.specs.declared.letter.Operator.{Operator}
 use Rattle.normal_form.specs.Forms.{normal_form}

@@ -8,7 +8,7 @@ ghost use Rattle.cases.specs.CaseViews.{view};
 ghost use Rattle.casefile.specs.Calls.{asked, field_letters};
 ghost use Rattle.transcript.specs.Outcomes.{told, accepted};
 ghost use Rattle.transcript.specs.Turns.{new_in_hand, answered, on_claim, on_amend, on_fund, on_letters, meaning_of, on_divide, on_draw, on_sign, on_return, operators_of, forms_told, asked_turn, turn, ending};
-ghost use Rattle.transcript.specs.HandViews.{in_hand, Comes, all_told};
+ghost use Rattle.transcript.specs.HandViews.{in_hand, ClaimantFits, Comes, all_told};
 
 use crate::in_hand::CaseInHand;
 use crate::outcome::{Division, MOST_POSTINGS, Outcome, Postings};
@@ -139,6 +139,7 @@ impl CaseInHand {
 
     // Does what a line asks for.
     pub(crate) fn perform(&mut self, call: Call<'_>) -> Outcome
+        requires fits { ClaimantFits (asked call) }
         ensures turn { Comes (asked_turn (asked call.entry) (in_hand self.old)) result (in_hand self.new) }
     {
         match call {

@@ -1,4 +1,4 @@
-use Rattle.std.proofs.Common.{◌≡◌, ℕ, ◌+◌, ◌/◌, ◌%◌, ◌^◌, ◌<◌, ◌≤◌, List, [], ◌∷◌, ◌++◌, length, sym, refl, ap, ◌∙◌, append_assoc, arith, length-append}
+use Rattle.std.proofs.Common.{◌≡◌, ℕ, ◌+◌, ◌/◌, ◌%◌, ◌^◌, ◌<◌, ◌≤◌, [], ◌∷◌, ◌++◌, length, sym, ap, ◌∙◌, append_assoc, arith, length-append}
 use Rattle.casefile.specs.Decimal.{digit, digits}
 use Rattle.casefile.proofs.Numbering.{digits_one, digits_more}
 use Rattle.transcript.proofs.Writing.{begins_as}
@@ -13,21 +13,21 @@ returns-then-number-lt10 t c =
     let n = c.args.number in
     let one = digits_one n c.if-number-lt10.true in
     record {
-      size = c.put-digit.ensures.size ∙ ap (λ ds. c.args.at + length ds) (sym one);
-      text = λ text start b. begins_as _ (text ++ digits n) start _ _ (ap (λ ds. text ++ ds) (sym one)) (c.put-digit.ensures.text text start b);
+      size = c.put_digit.ensures.size ∙ ap (λ ds. c.args.at + length ds) (sym one);
+      text = λ text start b. begins_as _ (text ++ digits n) start _ _ (ap (λ ds. text ++ ds) (sym one)) (c.put_digit.ensures.text text start b);
     }
 
-pub put-number-at-requires : goal.put-number-at-requires
-put-number-at-requires t c =
+pub put_number-at-requires : goal.put_number-at-requires
+put_number-at-requires t c =
     let n = c.args.number in
     let more = longer n c.if-number-lt10.false (omega arith) in
     (omega arith, omega arith)
 
-pub put-digit-requires-2 : goal.put-digit-requires-2
-put-digit-requires-2 t c =
+pub put_digit-requires-2 : goal.put_digit-requires-2
+put_digit-requires-2 t c =
     let n = c.args.number in
     let more = longer n c.if-number-lt10.false (omega arith) in
-    record { small = omega arith; room = omega (arith, c.put-number-at.ensures.size, c.put-number-at.auto.out) }
+    record { small = omega arith; room = omega (arith, c.put_number-at.ensures.size, c.put_number-at.auto.out) }
 
 pub returns : goal.returns
 returns t c =
@@ -35,8 +35,8 @@ returns t c =
     let more = longer n c.if-number-lt10.false (omega arith) in
     let is = digits_more n c.if-number-lt10.false (omega arith) in
     record {
-      size = omega (arith, c.put-digit-2.ensures.size, c.put-number-at.ensures.size);
+      size = omega (arith, c.put_digit-2.ensures.size, c.put_number-at.ensures.size);
       text = λ text start b.
           begins_as _ (text ++ digits n) start _ _ (append_assoc text (digits (n / 10)) (digit (n % 10) ∷ []) ∙ ap (λ ds. text ++ ds) (sym is))
-          (c.put-digit-2.ensures.text (text ++ digits (n / 10)) start (c.put-number-at.ensures.text text start b));
+          (c.put_digit-2.ensures.text (text ++ digits (n / 10)) start (c.put_number-at.ensures.text text start b));
     }

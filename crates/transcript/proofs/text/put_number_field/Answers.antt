@@ -5,6 +5,6 @@ use Rattle.transcript.proofs.text.put_number_field.Goals as goal
 
 pub returns : goal.returns
 returns c = record {
-  size = omega (arith, c.put-at.ensures.size, c.put-number.ensures.size);
-  text = λ text start b. begins_twice (comma ∷ []) _ start _ _ _ _ _ _ c.put-at.ensures.text c.put-number.ensures.text text b;
+  size = omega (arith, c.put-at.ensures.size, c.put_number.ensures.size);
+  text = λ text start b. begins_twice (comma ∷ []) _ start _ _ _ _ _ _ c.put-at.ensures.text c.put_number.ensures.text text b;
 }

@@ -7,8 +7,8 @@ use Rattle.transcript.proofs.text.put_signed_field.Goals as goal
 pub returns : goal.returns
 returns c =
     let f : SFits w64 c.args.number = c.ranges.number in
-    let size = simp to_z-of_z at c.put-signed.ensures.size in
+    let size = simp to_z-of_z at c.put_signed.ensures.size in
     record {
       size = omega (arith, c.put-at.ensures.size, size);
-      text = λ text start b. begins_twice (comma ∷ []) _ start _ _ _ _ _ _ c.put-at.ensures.text (simp to_z-of_z at c.put-signed.ensures.text) text b;
+      text = λ text start b. begins_twice (comma ∷ []) _ start _ _ _ _ _ _ c.put-at.ensures.text (simp to_z-of_z at c.put_signed.ensures.text) text b;
     }

@@ -1,4 +1,4 @@
-use Rattle.std.proofs.Common.{◌≡◌, replicate, sym, refl, ap, ◌∙◌}
+use Rattle.std.proofs.Common.{replicate, sym}
 use Rattle.cases.specs.Rows.{lines, no_posting}
 use Rattle.cases.specs.CaseViews.{view}
 use Rattle.transcript.specs.Turns.{posting_room}
@@ -6,14 +6,15 @@ use Rattle.transcript.specs.HandViews.{in_hand}
 use Rattle.transcript.proofs.Handing.{accepted_due, signed_few, signed_front, postable_front, sign_comes}
 use Rattle.transcript.proofs.in_hand.CaseInHand.sign.Goals as goal
 
-pub invariant-of-result : goal.invariant-of-result
-invariant-of-result c =
+pub invariant_of-result : goal.invariant_of-result
+invariant_of-result c =
     let v = view c.args.self.now.case in
     let told = c.in-Ok.ensures in
-    let front = signed_front v c.in-Some.sheet c.in-Ok.count c.sign.new.out (replicate posting_room no_posting) told.result told.list in (
-      signed_few v c.in-Some.sheet c.in-Ok.count told.result,
-      (postable_front c.in-Ok.count c.sign.new.out (lines v.rows) front (accepted_due _ _ _ _ told.result).1 told.postings, tt),
-    )
+    let front = signed_front v c.in-Some.sheet c.in-Ok.count c.sign.new.out (replicate posting_room no_posting) told.result told.list in
+    record {
+      few = signed_few v c.in-Some.sheet c.in-Ok.count told.result;
+      small = postable_front c.in-Ok.count c.sign.new.out (lines v.rows) front (accepted_due _ _ _ _ told.result).1 told.postings;
+    }
 
 pub returns-in-Ok : goal.returns-in-Ok
 returns-in-Ok c =

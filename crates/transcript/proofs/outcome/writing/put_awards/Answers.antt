@@ -1,4 +1,4 @@
-use Rattle.std.proofs.Common.{◌≡◌, ◌<◌, map, length, take, ap, arith}
+use Rattle.std.proofs.Common.{◌<◌, map, length, take, ap, arith}
 use Rattle.std.proofs.lemmas.List.{take_all}
 use Rattle.cases.specs.Rows.{no_row}
 use Rattle.transcript.specs.Texts.{award_fields, as_text}
@@ -10,8 +10,8 @@ loop-row-preserved c =
     let xs = c.args.rows.now in
     let i = c.loop-row.row-index in
     let within : i < length xs = omega arith in (
-      omega (arith, c.put-award-at.ensures.few, c.loop-row.invariant.0),
-      begins_as _ (as_text (map award_fields (take _ xs))) _ _ _ (lines_more award_fields xs i no_row within) (c.put-award-at.ensures.text _ _ c.loop-row.invariant.1),
+      omega (arith, c.put_award-at.ensures.few, c.loop-row.invariant.0),
+      begins_as _ (as_text (map award_fields (take _ xs))) _ _ _ (lines_more award_fields xs i no_row within) (c.put_award-at.ensures.text _ _ c.loop-row.invariant.1),
     )
 
 pub returns : goal.returns

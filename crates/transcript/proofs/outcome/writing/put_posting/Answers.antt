@@ -1,4 +1,4 @@
-use Rattle.std.proofs.Common.{◌≡◌, ℕ, ◌+◌, ◌^◌, ◌<◌, ◌≤◌, List, [], ◌∷◌, ◌++◌, length, codes, sym, ap, ◌∙◌, arith, w64, SFits, rules}
+use Rattle.std.proofs.Common.{◌≤◌, [], ◌∷◌, ◌++◌, length, codes, ap, ◌∙◌, arith, w64, SFits, rules}
 use Rattle.std.proofs.lemmas.Int.{to_z-of_z}
 use Rattle.casefile.specs.Decimal.{digits}
 use Rattle.casefile.proofs.Numbering.{digits_few}
@@ -6,29 +6,29 @@ use Rattle.transcript.specs.Texts.{post_fields, signed_digits, as_line}
 use Rattle.transcript.proofs.Writing.{begins_as, line_three, signed_few}
 use Rattle.transcript.proofs.outcome.writing.put_posting.Goals as goal
 
-pub put-number-field-at-requires : goal.put-number-field-at-requires
-put-number-field-at-requires c =
+pub put_number_field-at-requires : goal.put_number_field-at-requires
+put_number_field-at-requires c =
     let number : length (digits c.from.result) ≤ 5 = digits_few 5 c.from.result (omega arith) (omega arith) (omega arith) in
     omega (arith, c.put-at.ensures.size, c.put-at.auto.out)
 
-pub put-signed-field-at-requires : goal.put-signed-field-at-requires
-put-signed-field-at-requires c =
+pub put_signed_field-at-requires : goal.put_signed_field-at-requires
+put_signed_field-at-requires c =
     let z = c.args.posting.now.amount in
     let f : SFits w64 z = search rules in
     let number : length (digits c.from.result) ≤ 5 = digits_few 5 c.from.result (omega arith) (omega arith) (omega arith) in
     let amount = signed_few z c.requires.small.0 c.requires.small.1 in
-    simp to_z-of_z (omega (arith, c.put-at.ensures.size, c.put-number-field-at.ensures.size, c.put-at.auto.out, c.put-number-field-at.auto.out))
+    simp to_z-of_z (omega (arith, c.put-at.ensures.size, c.put_number_field-at.ensures.size, c.put-at.auto.out, c.put_number_field-at.auto.out))
 
-pub end-line-requires : goal.end-line-requires
-end-line-requires c =
+pub end_line-requires : goal.end_line-requires
+end_line-requires c =
     let z = c.args.posting.now.amount in
     let f : SFits w64 z = search rules in
     let number : length (digits c.from.result) ≤ 5 = digits_few 5 c.from.result (omega arith) (omega arith) (omega arith) in
     let amount = signed_few z c.requires.small.0 c.requires.small.1 in
-    let size = simp to_z-of_z at c.put-signed-field-at.ensures.size in
-    let kept = c.put-number-field-at.auto.out in
-    let kept-too = c.put-signed-field-at.auto.out in
-    omega (arith, c.put-at.ensures.size, c.put-number-field-at.ensures.size, size, c.put-at.auto.out)
+    let size = simp to_z-of_z at c.put_signed_field-at.ensures.size in
+    let kept = c.put_number_field-at.auto.out in
+    let kept-too = c.put_signed_field-at.auto.out in
+    omega (arith, c.put-at.ensures.size, c.put_number_field-at.ensures.size, size, c.put-at.auto.out)
 
 pub returns : goal.returns
 returns c =
@@ -37,13 +37,13 @@ returns c =
     let f : SFits w64 z = search rules in
     let number : length (digits c.from.result) ≤ 5 = digits_few 5 c.from.result (omega arith) (omega arith) (omega arith) in
     let amount = signed_few z c.requires.small.0 c.requires.small.1 in
-    let size = simp to_z-of_z at c.put-signed-field-at.ensures.size in
-    let lengthened = simp to_z-of_z at c.put-signed-field-at.ensures.text in
+    let size = simp to_z-of_z at c.put_signed_field-at.ensures.size in
+    let lengthened = simp to_z-of_z at c.put_signed_field-at.ensures.text in
     record {
-      few = omega (arith, c.put-at.ensures.size, c.put-number-field-at.ensures.size, size, c.end-line.ensures.size);
+      few = omega (arith, c.put-at.ensures.size, c.put_number_field-at.ensures.size, size, c.end_line.ensures.size);
       text = λ text start b.
           begins_as _ (text ++ as_line (post_fields posting)) start _ _
           (line_three text (codes "post") (digits c.from.result) (signed_digits z)
           ∙ ap (λ n. text ++ as_line (codes "post" ∷ digits n ∷ signed_digits z ∷ [])) c.from.ensures)
-          (c.end-line.ensures.text _ start (lengthened _ start (c.put-number-field-at.ensures.text _ start (c.put-at.ensures.text text start b))));
+          (c.end_line.ensures.text _ start (lengthened _ start (c.put_number_field-at.ensures.text _ start (c.put-at.ensures.text text start b))));
     }

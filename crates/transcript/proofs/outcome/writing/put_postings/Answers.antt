@@ -1,4 +1,4 @@
-use Rattle.std.proofs.Common.{◌≡◌, ◌<◌, map, length, take, ap, arith}
+use Rattle.std.proofs.Common.{◌<◌, map, length, take, ap, arith}
 use Rattle.std.proofs.lemmas.List.{take_all}
 use Rattle.cases.specs.Rows.{no_posting}
 use Rattle.transcript.specs.Texts.{post_fields, as_text}
@@ -10,8 +10,8 @@ loop-posting-preserved c =
     let xs = c.args.postings.now in
     let i = c.loop-posting.posting-index in
     let within : i < length xs = omega arith in (
-      omega (arith, c.put-posting-at.ensures.few, c.loop-posting.invariant.0),
-      begins_as _ (as_text (map post_fields (take _ xs))) _ _ _ (lines_more post_fields xs i no_posting within) (c.put-posting-at.ensures.text _ _ c.loop-posting.invariant.1),
+      omega (arith, c.put_posting-at.ensures.few, c.loop-posting.invariant.0),
+      begins_as _ (as_text (map post_fields (take _ xs))) _ _ _ (lines_more post_fields xs i no_posting within) (c.put_posting-at.ensures.text _ _ c.loop-posting.invariant.1),
     )
 
 pub returns : goal.returns
