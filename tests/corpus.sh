@@ -2,7 +2,9 @@
 # The built program prints, for every case file of the corpus and of the examples, exactly what stands beside it; and it
 # takes hostile input, endless input among it, without a crash and with status 0.
 set -euo pipefail
-program=target/bin/divide_file
+cd "$(dirname "$0")/.."
+./run - < /dev/null > /dev/null
+program=crates/divide_file/out/divide_file
 count=0
 for input in tests/corpus/*.in examples/*.case; do
   case $input in
