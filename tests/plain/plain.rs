@@ -1,7 +1,7 @@
 //! A plain divider of insolvent estates. It reads a case file from standard input and prints what comes of each line.
 //!
 //! Written from the pages in docs/ alone (RULES, OPERATORS, NORMAL-FORM, CASES, CASE-FILE, REFUSALS), without sight of
-//! the program `divide`, so that the two can be held against each other.
+//! the program `divide_file`, so that the two can be held against each other.
 //!
 //! Where it differs on purpose: a case here keeps the whole string of letters pressed and applies them one by one, as
 //! OPERATORS.md defines them. The normal form is worked only for `compare`, for a string above `LETTER_CUTOFF`, and
