@@ -46,6 +46,18 @@ FIELDS = re.compile(r"Rattle\.casefile\.specs\.Calls\.\{[^}]*letters-of|abbrev p
 KNOWN = {("transcript/calls.rt", "answer")}
 
 
+# names that are bound inside a proof or a definition
+LOCAL = (
+    "all-pressed", "answer-is", "as-decimal", "as-made", "claims-are", "claims-long", "class-passes", "classes-long",
+    "cut-others", "cut-own", "due-e", "given-part", "given-rest", "hand-is", "held-is", "is-a", "is-d", "is-e",
+    "less-left", "long-left", "long-mine", "long-others", "long-part", "long-right", "long-xy", "long-xz", "loss-is",
+    "mark-passes", "more-held", "no-refusal", "not-it", "number-passes", "others-none", "out-passes", "own-filled",
+    "own-rights", "own-total", "part-is", "reached-others", "read-too", "rest-filled", "rest-own", "room-passes",
+    "same-amount", "same-front", "table-passes", "told-so", "turned-share", "with-form", "with-total", "worked-are",
+    "yes-to-all", "zero-first", "zero-sum",
+)
+
+
 def antt_files(*folders):
     for crate in sorted(os.listdir(CRATES)):
         for folder in folders:
@@ -98,6 +110,8 @@ def table():
             to = turned(n, bases)
             if to != n:
                 out[n] = to
+    for n in LOCAL:
+        out[n] = n.replace("-", "_")
     seen = {n: n for n in names if n not in out}
     for n, to in out.items():
         if to in seen:

@@ -40,14 +40,14 @@ digits_all n small = ap all_digits (digits_decimal_is n small) ∙ digits_decima
 
 -- a number has a digit, and a zero in front only where it stands alone
 alone : (text : List ℕ) → needless_zero text ≡ false → 0 < length text → get_or text 0 0 ≡ 48 → length text ≡ 1
-alone [] none some zero-first = absurd (omega arith)
-alone (b ∷ []) none some zero-first = refl
-alone (b ∷ next ∷ bs) none some zero-first = absurd (both_ways (eqb b 48) none (eq-eqb b 48 zero-first))
+alone [] none some zero_first = absurd (omega arith)
+alone (b ∷ []) none some zero_first = refl
+alone (b ∷ next ∷ bs) none some zero_first = absurd (both_ways (eqb b 48) none (eq-eqb b 48 zero_first))
 
 not_needless : (text : List ℕ) → (get_or text 0 0 ≡ 48 → length text ≡ 1) → needless_zero text ≡ false
 not_needless [] h = refl
 not_needless (b ∷ []) h = refl
-not_needless (b ∷ next ∷ bs) h = ne_eqb b 48 (λ zero-first. omega (arith, h zero-first))
+not_needless (b ∷ next ∷ bs) h = ne_eqb b 48 (λ zero_first. omega (arith, h zero_first))
 
 record Parts (text : List ℕ) : Type 0 where
   some : 0 < length text
@@ -96,9 +96,9 @@ decimal_number n small =
 all_written : (text : List ℕ) (limit : ℕ) → limit < 2 ^ 64 → (n : ℕ) → text ≡ digits n → n ≤ limit → number_in text limit ≡ Some n
 all_written text limit small n e within =
     let fits : n < 2 ^ 64 = omega arith in
-    let as-decimal : text ≡ decimal n = e ∙ digits_decimal_is n fits in
-    let number : is_number text ≡ true = ap is_number as-decimal ∙ decimal_number n fits in
-    let value : value_after 0 text ≡ n = ap (value_after 0) as-decimal ∙ digits_value-decimal own n fits in
+    let as_decimal : text ≡ decimal n = e ∙ digits_decimal_is n fits in
+    let number : is_number text ≡ true = ap is_number as_decimal ∙ decimal_number n fits in
+    let value : value_after 0 text ≡ n = ap (value_after 0) as_decimal ∙ digits_value-decimal own n fits in
     cond-true (is_number text && leb (value_after 0 text) limit) (Some (value_after 0 text)) None
     (and_from (is_number text) (leb (value_after 0 text) limit) number (le-leb (value_after 0 text) limit (omega arith)))
     ∙ ap Some value

@@ -105,7 +105,7 @@ call_has (claim_line number amount class) asks none some e =
     let a = limited_only amount most_amount q.0 (omega arith) q.1 in
     let c = limited_only class most_class r.0 (omega arith) r.1 in
     let same_number = n.0 in
-    let same-amount = a.0 in
+    let same_amount = a.0 in
     let same_Class = c.0 in
     subst (Fits (kind_fields (claim_line number amount class))) (ok_same (asks_claim p.0 q.0 r.0) asks r.2)
     ((cc), (n.1, a.1, c.1))
@@ -115,13 +115,13 @@ call_has (amend_line number amount) asks none some e =
     let n = limited_only number most_claimant p.0 (omega arith) p.1 in
     let a = limited_only amount most_amount q.0 (omega arith) q.1 in
     let same_number = n.0 in
-    let same-amount = a.0 in
+    let same_amount = a.0 in
     subst (Fits (kind_fields (amend_line number amount))) (ok_same (asks_amend p.0 q.0) asks q.2)
     ((cc), (n.1, a.1))
 call_has (fund_line amount) asks none some e =
     let p = both_accepted (limited amount most_amount) _ asks e in
     let a = limited_only amount most_amount p.0 (omega arith) p.1 in
-    let same-amount = a.0 in
+    let same_amount = a.0 in
     subst (Fits (kind_fields (fund_line amount))) (ok_same (asks_fund p.0) asks p.2) ((cc), a.1)
 call_has (press_line letters) asks none some e =
     subst (Fits (kind_fields (press_line letters))) (ok_same (asks_press letters) asks e) (refl, none.1.0)

@@ -20,8 +20,8 @@ covers v none = grind (arith, nat_tests)
 pub never_refused : (v : View) (room : ℕ) → length v.rows ≤ most_claims → room ≡ length v.rows → total (amounts v.rows) ≤ most_total → Classed (classes_of v.rows) → divide_due v ≡ None → pile_due true (classes_of v.rows) (amounts v.rows) (estate_of v) room ≡ None
 never_refused v room few same small classed none =
     let rows = v.rows in
-    let claims-long = length-map rows (λ row. row.amount) in
-    let classes-long = length-map rows (λ row. row.class) in
+    let claims_long = length-map rows (λ row. row.amount) in
+    let classes_long = length-map rows (λ row. row.class) in
     passes (classes_of rows) (amounts rows) (estate_of v) room (omega arith) (omega arith) (omega arith) small (covers v none) (tested_if_classed (classes_of rows) classed)
 
 -- the front of a scratch list, as it is handed on

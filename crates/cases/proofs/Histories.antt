@@ -21,8 +21,8 @@ posts_none k = omega (arith, ints)
 posts_sign : (sheet : Sheet) (room : ℕ) (l : Ledger) (v : View) → Tied l v → sign_due v sheet room ≡ None → (n : ℕ) → (n ≡ estate_number → ⊥) → under n (lines v.rows) +ℤ pos (l.signed n) ≡ pos (l.worked n)
 posts_sign sheet room l v t none n claimant =
     let lines_are = under_lines n v.rows claimant (subst Distinct t.entries t.kept.distinct) in
-    let worked-are = t.worked_is (sheet_marked l v t sheet room none) n in
-    omega (arith, ints, lines_are, worked-are, t.paid_is n)
+    let worked_are = t.worked_is (sheet_marked l v t sheet room none) n in
+    omega (arith, ints, lines_are, worked_are, t.paid_is n)
 
 posts : (e : Event) (l : Ledger) (v w : View) → Tied l v → Step e v w → (n : ℕ) → (n ≡ estate_number → ⊥) → Posts e l n
 posts (Admit number amount class (Ok done)) l v w t step n claimant = posts_none (l.signed n)
@@ -66,11 +66,11 @@ balanced_past : {history : List Event} {v : View} → Past history v → Balance
 balanced_past (made number) = record { each = tt; estate = refl }
 balanced_past (moved {history} {e} {v} {w} past step) =
     let before = balanced_past past in
-    let zero-sum = balanced_event e v w step in
+    let zero_sum = balanced_event e v w step in
     let parts = estate_and_others (written e) in
     record {
-      each = (zero-sum, before.each);
-      estate = omega (arith, ints, zero-sum, parts, before.estate);
+      each = (zero_sum, before.each);
+      estate = omega (arith, ints, zero_sum, parts, before.estate);
     }
 
 pub always_balanced : AlwaysBalanced

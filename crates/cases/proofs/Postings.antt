@@ -20,7 +20,7 @@ pub under_rows : (n : ℕ) (rows : List Row) → Distinct (map entry_of rows) �
 under_rows n [] d = refl
 under_rows n (row ∷ rows) d = elim (cases_Bool (eqb row.number n)) [
   | inl same ↦ (
-      let others-none : under n (map row_posting rows) ≡ pos 0 = under_none n rows (subst (λ m. listed m (map entry_of rows) ≡ false) (eqb-true row.number n same) d.0) in
+      let others_none : under n (map row_posting rows) ≡ pos 0 = under_none n rows (subst (λ m. listed m (map entry_of rows) ≡ false) (eqb-true row.number n same) d.0) in
       rw same (omega (arith, ints)))
   | inr other ↦ rw other (under_rows n rows d.1)
 ]

@@ -11,7 +11,7 @@ first_bears : (row : Row) (rows : List Row) (n : ℕ) → row.number ≡ n → o
 first_bears row rows n is = ap (λ b. b || on_table n rows) (eq-eqb row.number n is)
 
 first_differs : (row : Row) (rows : List Row) (n : ℕ) → (row.number ≡ n → ⊥) → on_table n (row ∷ rows) ≡ on_table n rows
-first_differs row rows n not-it = ap (λ b. b || on_table n rows) (ne_eqb row.number n not-it)
+first_differs row rows n not_it = ap (λ b. b || on_table n rows) (ne_eqb row.number n not_it)
 
 pub found_on_table : (rows : List Row) (n : ℕ) (r : Option ℕ) → FirstBearing (λ row. row.number) n rows r → is_some r ≡ on_table n rows
 found_on_table [] n None h = refl

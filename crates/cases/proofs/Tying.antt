@@ -274,22 +274,22 @@ module _ (l : Ledger) (v : View) (t : Tied l v) where
   pub tied_admit : (number amount class : ℕ) → admit_due v number amount class ≡ None → Tied (fed (Admit number amount class (Ok tt)) l) (admitted v number amount class)
   tied_admit number amount class none =
       let total-passes = none_due _ _ _ none in
-      let class-passes = none_due _ _ _ total-passes.1 in
-      let out-passes = none_due _ _ _ class-passes.1 in
-      let number-passes = none_due _ _ _ out-passes.1 in
-      let table-passes = none_due _ _ _ number-passes.1 in
-      let room-passes = none_due _ _ _ table-passes.1 in
+      let class_passes = none_due _ _ _ total-passes.1 in
+      let out_passes = none_due _ _ _ class_passes.1 in
+      let number_passes = none_due _ _ _ out_passes.1 in
+      let table_passes = none_due _ _ _ number_passes.1 in
+      let room_passes = none_due _ _ _ table_passes.1 in
       let new : Entry = record { number = number; amount = amount; class = class } in
       record {
         entries = ap (λ es. es ++ new ∷ []) t.entries ∙ sym (map_push entry_of v.rows (new_row number amount class));
         kept = kept_more new l.entries t.kept
-            (not-false (is_class_number class) class-passes.0)
-            (room_tied room-passes.0)
+            (not-false (is_class_number class) class_passes.0)
+            (room_tied room_passes.0)
             (small_tied amount total-passes.0)
-            (listed_tied number ∙ table-passes.0);
+            (listed_tied number ∙ table_passes.0);
         fund = t.fund;
         form = t.form;
-        out_marked = λ out. absurd (both_ways v.out out-passes.0 out);
+        out_marked = λ out. absurd (both_ways v.out out_passes.0 out);
         paid_is = λ n. t.paid_is n ∙ sym (paid_admitted n number amount class v.rows);
         worked_is = λ e. unmarked e;
       }
@@ -297,10 +297,10 @@ module _ (l : Ledger) (v : View) (t : Tied l v) where
   pub tied_amend : (number amount : ℕ) → amend_due v number amount ≡ None → Tied (fed (Amend number amount (Ok tt)) l) (amended v number amount)
   tied_amend number amount none =
       let total-passes = none_due _ _ _ none in
-      let out-passes = none_due _ _ _ total-passes.1 in
-      let number-passes = none_due _ _ _ out-passes.1 in
-      let table-passes = none_due _ _ _ number-passes.1 in
-      let on = not-false (on_table number v.rows) table-passes.0 in
+      let out_passes = none_due _ _ _ total-passes.1 in
+      let number_passes = none_due _ _ _ out_passes.1 in
+      let table_passes = none_due _ _ _ number_passes.1 in
+      let on = not-false (on_table number v.rows) table_passes.0 in
       let rows = with_amount number amount v.rows in
       let small : total (amounts rows) ≤ most_total =
       ltb-false most_total (total (amounts rows)) (sym (ap (λ b. b && ltb most_total (total (amounts rows))) on) ∙ total-passes.0) in
@@ -310,7 +310,7 @@ module _ (l : Ledger) (v : View) (t : Tied l v) where
         kept = kept_re_entered number amount l.entries t.kept (omega (arith, ap (λ es. total (map (λ (entry : Entry). entry.amount) es)) same, ap total (amounts_are rows)));
         fund = t.fund;
         form = t.form;
-        out_marked = λ out. absurd (both_ways v.out out-passes.0 out);
+        out_marked = λ out. absurd (both_ways v.out out_passes.0 out);
         paid_is = λ n. t.paid_is n ∙ sym (paid_amended n number amount v.rows);
         worked_is = λ e. unmarked e;
       }
@@ -318,13 +318,13 @@ module _ (l : Ledger) (v : View) (t : Tied l v) where
   pub tied_fund : (amount : ℕ) → fund_due v amount ≡ None → Tied (fed (Fund amount (Ok tt)) l) (funded v amount)
   tied_fund amount none =
       let total-passes = none_due _ _ _ none in
-      let out-passes = none_due _ _ _ total-passes.1 in
+      let out_passes = none_due _ _ _ total-passes.1 in
       record {
         entries = t.entries;
         kept = t.kept;
         fund = refl;
         form = t.form;
-        out_marked = λ out. absurd (both_ways v.out out-passes.0 out);
+        out_marked = λ out. absurd (both_ways v.out out_passes.0 out);
         paid_is = t.paid_is;
         worked_is = λ e. unmarked e;
       }
@@ -332,13 +332,13 @@ module _ (l : Ledger) (v : View) (t : Tied l v) where
   pub tied_press : (letters : List ℕ) → press_due v letters ≡ None → Tied (fed (Press letters (Ok tt)) l) (letters_pressed v letters)
   tied_press letters none =
       let letters_pass = none_due _ _ _ none in
-      let out-passes = none_due _ _ _ letters_pass.1 in
+      let out_passes = none_due _ _ _ letters_pass.1 in
       record {
         entries = t.entries;
         kept = t.kept;
         fund = t.fund;
         form = ap (λ p. pressed_in_turn p (operators_in letters)) t.form ∙ sym (pressed_joined no_letters l.letters (operators_in letters));
-        out_marked = λ out. absurd (both_ways v.out out-passes.0 out);
+        out_marked = λ out. absurd (both_ways v.out out_passes.0 out);
         paid_is = t.paid_is;
         worked_is = λ e. unmarked e;
       }
@@ -362,14 +362,14 @@ module _ (l : Ledger) (v : View) (t : Tied l v) where
 
   pub tied_draw : draw_due v ≡ None → Tied l (drawn v)
   tied_draw none =
-      let out-passes = none_due _ _ _ none in
-      let mark-passes = none_due _ _ _ out-passes.1 in
+      let out_passes = none_due _ _ _ none in
+      let mark_passes = none_due _ _ _ out_passes.1 in
       record {
         entries = t.entries;
         kept = t.kept;
         fund = t.fund;
         form = t.form;
-        out_marked = λ out. not-false v.marked mark-passes.0;
+        out_marked = λ out. not-false v.marked mark_passes.0;
         paid_is = t.paid_is;
         worked_is = t.worked_is;
       }

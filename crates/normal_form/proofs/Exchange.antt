@@ -87,30 +87,30 @@ total-cut cap [] = omega arith
 total-cut cap (x ∷ xs) = omega (arith, total-cut cap xs)
 
 -- a claim, what the others add up to, the estate, and what the others add up to when they are cut to the estate
-same_right : (c others estate cut-others : ℕ) → estate ≤ c + others → min others estate ≤ cut-others → cut-others ≤ others
-    → min c estate - (min c estate + cut-others - estate) ≡ c - (c + others - estate)
-same_right c others estate cut-others covered low high =
+same_right : (c others estate cut_others : ℕ) → estate ≤ c + others → min others estate ≤ cut_others → cut_others ≤ others
+    → min c estate - (min c estate + cut_others - estate) ≡ c - (c + others - estate)
+same_right c others estate cut_others covered low high =
     elim (cases_lt others estate) [
-      | inl small ↦ (let is : cut-others ≡ others = omega arith in omega arith)
-      | inr large ↦ (let is : estate ≤ cut-others = omega arith in omega arith)
+      | inl small ↦ (let is : cut_others ≡ others = omega arith in omega arith)
+      | inr large ↦ (let is : estate ≤ cut_others = omega arith in omega arith)
     ]
 
-same_reach : (c others estate cut-others reached-others : ℕ) → estate ≤ c + others
-    → min others estate ≤ cut-others → cut-others ≤ others
-    → min others (c + others - estate) ≤ reached-others → reached-others ≤ others
-    → min (min c estate) (min c estate + cut-others - estate)
-    ≡ min (min c (c + others - estate)) (min c (c + others - estate) + reached-others - (c + others - estate))
-same_reach c others estate cut-others reached-others covered low high low' high' =
+same_reach : (c others estate cut_others reached_others : ℕ) → estate ≤ c + others
+    → min others estate ≤ cut_others → cut_others ≤ others
+    → min others (c + others - estate) ≤ reached_others → reached_others ≤ others
+    → min (min c estate) (min c estate + cut_others - estate)
+    ≡ min (min c (c + others - estate)) (min c (c + others - estate) + reached_others - (c + others - estate))
+same_reach c others estate cut_others reached_others covered low high low' high' =
     elim (cases_lt others estate) [
-      | inl small ↦ (let is : cut-others ≡ others = omega arith in
+      | inl small ↦ (let is : cut_others ≡ others = omega arith in
           elim (cases_lt estate c) [
-            | inl above ↦ (let reach : reached-others ≡ others = omega arith in omega arith)
-            | inr below ↦ (let reach : c + others - estate ≤ reached-others = omega arith in omega arith)
+            | inl above ↦ (let reach : reached_others ≡ others = omega arith in omega arith)
+            | inr below ↦ (let reach : c + others - estate ≤ reached_others = omega arith in omega arith)
           ])
-      | inr large ↦ (let is : estate ≤ cut-others = omega arith in
+      | inr large ↦ (let is : estate ≤ cut_others = omega arith in
           elim (cases_lt estate c) [
-            | inl above ↦ (let reach : reached-others ≡ others = omega arith in omega arith)
-            | inr below ↦ (let reach : c + others - estate ≤ reached-others = omega arith in omega arith)
+            | inl above ↦ (let reach : reached_others ≡ others = omega arith in omega arith)
+            | inr below ↦ (let reach : c + others - estate ≤ reached_others = omega arith in omega arith)
           ])
     ]
 
@@ -145,14 +145,14 @@ module _ (claims : List ℕ) (estate : ℕ) (s : Sound claims estate) where
       (λ i.
       let others = without claims i in
       let c = get_or claims i 0 in
-      let loss-is : c + total others - estate ≡ loss = omega (arith, total-without claims i) in
+      let loss_is : c + total others - estate ≡ loss = omega (arith, total-without claims i) in
       slice_index-cut (total capped - estate) capped i
       ∙ ap (λ x. min x (total capped - estate)) (slice_index-cut estate claims i)
       ∙ ap (λ x. min (min c estate) (x - estate)) (total_cut_without estate claims i)
       ∙ same_reach c (total others) estate (total (cut estate others)) (total (cut (c + total others - estate) others))
       (omega (arith, s.covered, total-without claims i)) (cut_covers estate others) (total-cut estate others)
       (cut_covers (c + total others - estate) others) (total-cut (c + total others - estate) others)
-      ∙ ap (λ l. min (min c l) (min c l + total (cut l others) - l)) loss-is
+      ∙ ap (λ l. min (min c l) (min c l + total (cut l others) - l)) loss_is
       ∙ ap (λ x. min (min c loss) (x - loss)) (sym (total_cut_without loss claims i))
       ∙ ap (λ x. min x (total rest - loss)) (sym (slice_index-cut loss claims i))
       ∙ sym (slice_index-cut (total rest - loss) rest i))

@@ -66,4 +66,4 @@ six_bytes p =
 
 pub six_options : (p : Parts) (a b c d e f : Option ℕ) → a ≡ dual_byte p.dual → b ≡ inner_byte p.truncation 116 → c ≡ inner_byte p.rights 109 → d ≡ order_byte p.order → e ≡ outer_byte p.truncation 116 → f ≡ outer_byte p.rights 109
     → (((((([] ++ as_text a) ++ as_text b) ++ as_text c) ++ as_text d) ++ as_text e) ++ as_text f) ≡ map byte_of (letters_of p)
-six_options p a b c d e f is-a is_b is_c is-d is-e is_f = rw (is-a, is_b, is_c, is-d, is-e, is_f) (six_bytes p)
+six_options p a b c d e f is_a is_b is_c is_d is_e is_f = rw (is_a, is_b, is_c, is_d, is_e, is_f) (six_bytes p)

@@ -116,7 +116,7 @@ module _ (classes claims : List ℕ) (estate room : ℕ) where
 
   -- what is refused with known letters is refused with any
   pub still_refused : (known : Bool) (e : PileRefusal) → pile_due true classes claims estate room ≡ Some e → pile_due known classes claims estate room ≡ Some e
-  still_refused known e due-e = letters_last known ∙ ap (λ o. or_else o (cond known None (Some (Letter UnknownLetter)))) due-e
+  still_refused known e due_e = letters_last known ∙ ap (λ o. or_else o (cond known None (Some (Letter UnknownLetter)))) due_e
 
   -- what passes with known letters is refused for the letters alone
   pub letters_refused : (known : Bool) → known ≡ false → pile_due true classes claims estate room ≡ None → pile_due known classes claims estate room ≡ Some (Letter UnknownLetter)

@@ -64,9 +64,9 @@ module _ (classes : List ℕ) where
     same = λ k claims estate own s.
         let loss = total claims - estate in
         let mine = rights loss claims in
-        let cut-own : of_class k classes (cut loss claims) ≡ cut loss claims = of_class_cut k loss classes claims ∙ ap (cut loss) own in
-        let rest-own : of_class k classes (less claims mine) ≡ less claims mine = subst (λ xs. of_class k classes xs ≡ xs) (sym (reached loss claims)) cut-own in
-        ap (plus mine) (a.same k (less claims mine) (estate - total mine) rest-own (rest_sound claims estate s));
+        let cut_own : of_class k classes (cut loss claims) ≡ cut loss claims = of_class_cut k loss classes claims ∙ ap (cut loss) own in
+        let rest_own : of_class k classes (less claims mine) ≡ less claims mine = subst (λ xs. of_class k classes xs ≡ xs) (sym (reached loss claims)) cut_own in
+        ap (plus mine) (a.same k (less claims mine) (estate - total mine) rest_own (rest_sound claims estate s));
   }
 
   served_same : (order : List ℕ) (f g : Meaning) → AgreeInClass classes f g → (claims : List ℕ) (estate : ℕ) → Sound claims estate → (left : ℕ) → served order classes f claims left ≡ served order classes g claims left
@@ -251,6 +251,6 @@ dual_of_served order mirror m classes classed f law = record {
       let share = share_of k mirror classes claims estate in
       let here = place_served order classes f law claims loss (loss_sound claims estate s) loss i (m.once k (classed i).0 (classed i).1) in
       let there = place_served mirror classes (dual f) (dual_lawful f law) claims estate s estate i (m.once_back k (classed i).0 (classed i).1) in
-      let turned-share = ap (λ e. get_or (f mine e) i 0) (dual_share order mirror m classes classed claims estate s.covered k (classed i).0 (classed i).1) in
-      omega (arith, slice_index-less claims lost i, here, there, slice_index-less mine (f mine (total mine - share)) i, is_of_class k classes claims i (eq-eqb k k refl), turned-share));
+      let turned_share = ap (λ e. get_or (f mine e) i 0) (dual_share order mirror m classes classed claims estate s.covered k (classed i).0 (classed i).1) in
+      omega (arith, slice_index-less claims lost i, here, there, slice_index-less mine (f mine (total mine - share)) i, is_of_class k classes claims i (eq-eqb k k refl), turned_share));
 }

@@ -128,10 +128,10 @@ other_form_told_apart left right differ =
     }
 
 pub told_apart_not_alike : law.ToldApartNotAlike
-told_apart_not_alike left right told-so alike =
-    let t = telling told-so.number in
-    let a = apart.answerable told-so.number told-so.from_one told-so.to_nine in
-    told-so.differ (alike t.rule a.lawful t.classes a.classed t.claims t.estate a.sound)
+told_apart_not_alike left right told_so alike =
+    let t = telling told_so.number in
+    let a = apart.answerable told_so.number told_so.from_one told_so.to_nine in
+    told_so.differ (alike t.rule a.lawful t.classes a.classed t.claims t.estate a.sound)
 
 pub just_44 : law.Just44
 just_44 = record { number = refl; forms = apart.form_at; once = apart.forms_once; every = apart.form_listed }

@@ -25,13 +25,13 @@ module _ (classes : List ℕ) (place : ℕ) (so_far : all_classed (drop place cl
 -- the front of the list, copied over a row of class 8, is what a layer keeps
 pub kept_made : (classes copied : List ℕ) (n : ℕ) → n ≡ min (length classes) most_claims → copied ≡ take (n - 0) classes → copied ++ drop (n - 0) (replicate most_claims last_class) ≡ kept classes
 kept_made classes copied n count front =
-    let same-front : take (n - 0) classes ≡ take most_claims classes = elim (cases_lt (length classes) most_claims) [
+    let same_front : take (n - 0) classes ≡ take most_claims classes = elim (cases_lt (length classes) most_claims) [
       | inl short ↦ take_all (n - 0) classes (omega arith) ∙ sym (take_all most_claims classes (omega arith))
       | inr long ↦ (let all : n - 0 ≡ most_claims = omega arith in ap (λ k. take k classes) all)
     ] in
     let left : most_claims - (n - 0) ≡ most_claims - length classes = omega arith in
     let same_rest = drop-replicate (n - 0) most_claims last_class ∙ ap (λ k. replicate k last_class) left in
-    ap (λ xs. xs ++ drop (n - 0) (replicate most_claims last_class)) (front ∙ same-front) ∙ ap (λ xs. take most_claims classes ++ xs) same_rest
+    ap (λ xs. xs ++ drop (n - 0) (replicate most_claims last_class)) (front ∙ same_front) ∙ ap (λ xs. take most_claims classes ++ xs) same_rest
 
 -- what the answer of the test tells
 pub passed_none : (o : Option ClassRefusal) → Ok tt ≡ answer {X = Unit {0}} o tt → o ≡ None

@@ -9,35 +9,35 @@ use Rattle.operators.specs.RightsLawful.{length-rights, rights_fit, rest_sound, 
 use Rattle.operators.proofs.Problems.{front}
 
 -- the rights, what they add up to, and what is left of the claims; the rest is a sound problem
-pub record Parted (claims : List ℕ) (estate room : ℕ) (own : List ℕ) (own-total : ℕ) (rest : List ℕ) : Type 0 where
+pub record Parted (claims : List ℕ) (estate room : ℕ) (own : List ℕ) (own_total : ℕ) (rest : List ℕ) : Type 0 where
   pub own_is : own ≡ rights (total claims - estate) claims
-  pub total_is : own-total ≡ total (rights (total claims - estate) claims)
+  pub total_is : own_total ≡ total (rights (total claims - estate) claims)
   pub rest_is : rest ≡ less claims (rights (total claims - estate) claims)
   pub sound : Sound claims estate
-  pub rest_sound : Sound rest (estate - own-total)
+  pub rest_sound : Sound rest (estate - own_total)
   pub room_is : room ≡ length rest
 
 -- the front of the scratch list of rights
 pub own_front : (claims : List ℕ) (estate room sum : ℕ) (own : List ℕ) → Passed claims estate room sum → take (length claims) own ≡ rights (sum - estate) claims → take (length claims - 0) own ≡ rights (total claims - estate) claims
 own_front claims estate room sum own p filled = front own _ (length claims) (filled ∙ ap (λ n. rights (n - estate) claims) p.sum_is)
 
-pub parted : (claims : List ℕ) (estate room sum : ℕ) (own : List ℕ) (own-total : ℕ) (rest : List ℕ) → Passed claims estate room sum → take (length claims) own ≡ rights (sum - estate) claims → own-total ≡ total (take (length claims - 0) own) → take (length claims) rest ≡ cut (sum - estate) claims → Parted claims estate room (take (length claims - 0) own) own-total (take (length claims - 0) rest)
-parted claims estate room sum own own-total rest p own-filled added rest-filled =
-    let own-rights = rights (total claims - estate) claims in
-    let own_is = own_front claims estate room sum own p own-filled in
-    let total_is : own-total ≡ total own-rights = added ∙ ap total own_is in
-    let rest_is : take (length claims - 0) rest ≡ less claims own-rights = front rest _ (length claims) (rest-filled ∙ ap (λ n. cut (n - estate) claims) p.sum_is ∙ sym (rest_cut (total claims - estate) claims)) in
+pub parted : (claims : List ℕ) (estate room sum : ℕ) (own : List ℕ) (own_total : ℕ) (rest : List ℕ) → Passed claims estate room sum → take (length claims) own ≡ rights (sum - estate) claims → own_total ≡ total (take (length claims - 0) own) → take (length claims) rest ≡ cut (sum - estate) claims → Parted claims estate room (take (length claims - 0) own) own_total (take (length claims - 0) rest)
+parted claims estate room sum own own_total rest p own_filled added rest_filled =
+    let own_rights = rights (total claims - estate) claims in
+    let own_is = own_front claims estate room sum own p own_filled in
+    let total_is : own_total ≡ total own_rights = added ∙ ap total own_is in
+    let rest_is : take (length claims - 0) rest ≡ less claims own_rights = front rest _ (length claims) (rest_filled ∙ ap (λ n. cut (n - estate) claims) p.sum_is ∙ sym (rest_cut (total claims - estate) claims)) in
     record {
       own_is = own_is;
       total_is = total_is;
       rest_is = rest_is;
       sound = p.sound;
-      rest_sound = subst (λ n. Sound (take (length claims - 0) rest) (estate - n)) (sym total_is) (subst (λ xs. Sound xs (estate - total own-rights)) (sym rest_is) (rest_sound claims estate p.sound));
-      room_is = omega (arith, ap length rest_is, length-less claims own-rights, p.room_is);
+      rest_sound = subst (λ n. Sound (take (length claims - 0) rest) (estate - n)) (sym total_is) (subst (λ xs. Sound xs (estate - total own_rights)) (sym rest_is) (rest_sound claims estate p.sound));
+      room_is = omega (arith, ap length rest_is, length-less claims own_rights, p.room_is);
     }
 
-module _ {claims : List ℕ} {estate room : ℕ} {own : List ℕ} {own-total : ℕ} {rest : List ℕ} (h : Parted claims estate room own own-total rest) where
-  pub rights_first : (f : Meaning) (held after : List ℕ) → held ≡ f rest (estate - own-total) → after ≡ plus own held → after ≡ minimal_rights f claims estate
+module _ {claims : List ℕ} {estate room : ℕ} {own : List ℕ} {own_total : ℕ} {rest : List ℕ} (h : Parted claims estate room own own_total rest) where
+  pub rights_first : (f : Meaning) (held after : List ℕ) → held ≡ f rest (estate - own_total) → after ≡ plus own held → after ≡ minimal_rights f claims estate
   rights_first f held after e added =
       let own_is = h.own_is in
       let total_is = h.total_is in
@@ -45,10 +45,10 @@ module _ {claims : List ℕ} {estate room : ℕ} {own : List ℕ} {own-total : �
       cc
 
   -- rights and awards together are the estate
-  pub rights_and_awards : (f : Meaning) → Lawful f → (held : List ℕ) → held ≡ f rest (estate - own-total) → (length held ≡ length own) × (total own + total held ≤ most_total)
+  pub rights_and_awards : (f : Meaning) → Lawful f → (held : List ℕ) → held ≡ f rest (estate - own_total) → (length held ≡ length own) × (total own + total held ≤ most_total)
   rights_and_awards f law held e =
       let loss = total claims - estate in
-      let shared = law rest (estate - own-total) h.rest_sound in
+      let shared = law rest (estate - own_total) h.rest_sound in
       let s = h.sound in (
         omega (arith, ap length e, shared.as_long, ap length h.rest_is, length-less claims (rights loss claims), ap length h.own_is, length-rights loss claims),
         omega (arith, ap total e, shared.spent, ap total h.own_is, h.total_is, rights_fit claims estate s, s.covered, s.small),

@@ -61,10 +61,10 @@ plus_none_right claims xs long =
 
 plus_turned : (xs ys zs : List ℕ) → length xs ≡ length ys → length ys ≡ length zs → plus (plus xs ys) zs ≡ plus ys (plus xs zs)
 plus_turned xs ys zs p q =
-    let long-xy = length-plus xs ys p in
-    let long-xz = length-plus xs zs (p ∙ q) in
-    let long-left = length-plus (plus xs ys) zs (omega arith) in
-    let long-right = length-plus ys (plus xs zs) (omega arith) in
+    let long_xy = length-plus xs ys p in
+    let long_xz = length-plus xs zs (p ∙ q) in
+    let long_left = length-plus (plus xs ys) zs (omega arith) in
+    let long_right = length-plus ys (plus xs zs) (omega arith) in
     same_amounts (plus (plus xs ys) zs) (plus ys (plus xs zs)) (omega arith) (λ i.
     omega (arith, slice_index-plus (plus xs ys) zs i, slice_index-plus xs ys i, slice_index-plus ys (plus xs zs) i, slice_index-plus xs zs i))
 
@@ -77,26 +77,26 @@ pub record SoFar (order classes : List ℕ) (f : Meaning) (claims : List ℕ) (e
 module _ (order classes : List ℕ) (f : Meaning) (law : Lawful f) (claims : List ℕ) (estate : ℕ) (s : Sound claims estate) where
   pub so_far_none : (room : ℕ) (held : List ℕ) → room ≡ length claims → held ≡ replicate room 0 → SoFar order classes f claims estate 0 held estate
   so_far_none room held room_is cleared =
-      let held-is = cleared ∙ ap (λ n. replicate n 0) room_is ∙ replicate_nothing claims in
+      let held_is = cleared ∙ ap (λ n. replicate n 0) room_is ∙ replicate_nothing claims in
       record {
-        long = ap length held-is ∙ length-nothing claims;
-        balance = omega (arith, ap total held-is, total-nothing claims);
-        whole = rw held-is (plus_none_left claims (served order classes f claims estate) (length-served order classes f law claims estate s estate));
+        long = ap length held_is ∙ length-nothing claims;
+        balance = omega (arith, ap total held_is, total-nothing claims);
+        whole = rw held_is (plus_none_left claims (served order classes f claims estate) (length-served order classes f law claims estate s estate));
       }
 
   pub so_far_more : (place : ℕ) (held : List ℕ) (left : ℕ) → SoFar order classes f claims estate place held left → place < length order → (class : ℕ) → class ≡ get_or order place 0 → (held' : List ℕ) (left' : ℕ) → left' ≡ left - class_share class classes claims left → held' ≡ plus (f (of_class class classes claims) (class_share class classes claims left)) held → SoFar order classes f claims estate (place + 1) held' left'
-  so_far_more place held left so within class is held' left' less-left more-held =
+  so_far_more place held left so within class is held' left' less_left more_held =
       let share = class_share class classes claims left in
       let part = f (of_class class classes claims) share in
       let others = served (drop (place + 1) order) classes f claims (left - share) in
       let shared = law (of_class class classes claims) share (class_sound class classes claims estate s left) in
-      let long-part : length part ≡ length held = omega (arith, shared.as_long, length-of_class class classes claims, so.long) in
-      let long-others = length-served (drop (place + 1) order) classes f law claims estate s (left - share) in
+      let long_part : length part ≡ length held = omega (arith, shared.as_long, length-of_class class classes claims, so.long) in
+      let long_others = length-served (drop (place + 1) order) classes f law claims estate s (left - share) in
       let next : served (drop place order) classes f claims left ≡ plus part others = at_drop_more (λ ks. served ks classes f claims left) order place 0 within ∙ ap (λ k. served (k ∷ drop (place + 1) order) classes f claims left) (sym is) in
       record {
-        long = omega (arith, ap length more-held, length-plus part held long-part, long-part, so.long);
-        balance = omega (arith, ap total more-held, total-plus part held, shared.spent, so.balance, less-left);
-        whole = ap (λ xs. plus xs (served (drop (place + 1) order) classes f claims left')) more-held ∙ ap (λ n. plus (plus part held) (served (drop (place + 1) order) classes f claims n)) less-left ∙ plus_turned part held others long-part (omega (arith, long-others, so.long)) ∙ ap (λ xs. plus held xs) (sym next) ∙ so.whole;
+        long = omega (arith, ap length more_held, length-plus part held long_part, long_part, so.long);
+        balance = omega (arith, ap total more_held, total-plus part held, shared.spent, so.balance, less_left);
+        whole = ap (λ xs. plus xs (served (drop (place + 1) order) classes f claims left')) more_held ∙ ap (λ n. plus (plus part held) (served (drop (place + 1) order) classes f claims n)) less_left ∙ plus_turned part held others long_part (omega (arith, long_others, so.long)) ∙ ap (λ xs. plus held xs) (sym next) ∙ so.whole;
       }
 
   pub so_far_all : (place : ℕ) (held : List ℕ) (left : ℕ) → SoFar order classes f claims estate place held left → length order ≤ place → held ≡ served order classes f claims estate

@@ -117,8 +117,8 @@ served_divides (k ∷ order) classes f law claims estate s left fits =
     let first = law mine share (class_sound k classes claims estate s left) in
     let both = total-plus mine others in
     let then = served_divides order classes f law claims estate s (left - share) (omega (arith, both, fits)) in
-    let long-mine = length-of_class k classes claims in
-    let long-others = length-of_order order classes claims in
+    let long_mine = length-of_class k classes claims in
+    let long_others = length-of_order order classes claims in
     let alike : length ours ≡ length theirs = omega (arith, first.as_long, then.as_long) in
     record {
       as_long = omega (arith, length-plus ours theirs alike, length-of_order (k ∷ order) classes claims, first.as_long);

@@ -38,7 +38,7 @@ draw_settles (Some e) sheet new h = record { if_so = λ is. none_some e (sym is)
 -- a call of whoever holds the sheet in hand
 spent_settles : {X : Type 0} (due : Option SheetRefusal) (value : X) (sheet : Sheet) (t : Told) (new : View) (h : InHand) → is_refused t ≡ false → h.sheet ≡ Some sheet → Settles (sheet_told (answer_with due value sheet) t) (record { case = unless_due due new h.case; sheet = sheet_left (answer_with due value sheet) }) h (due ≡ None)
 spent_settles None value sheet t new h plain is = record { if_so = λ _. plain; only_so = λ _. refl; kept = λ e. absurd (both_ways (is_refused t) plain e) }
-spent_settles (Some e) value sheet t new h plain is = record { if_so = λ none. none_some e (sym none); only_so = λ no-refusal. never no-refusal; kept = λ _. ap (λ s. record { case = h.case; sheet = s }) (sym is) }
+spent_settles (Some e) value sheet t new h plain is = record { if_so = λ none. none_some e (sym none); only_so = λ no_refusal. never no_refusal; kept = λ _. ap (λ s. record { case = h.case; sheet = s }) (sym is) }
 
 letters_settle : (o : Option (List ℕ)) (h : InHand) → Settles (on_letters o h).told (on_letters o h).hand h ((letters : List ℕ) × (o ≡ Some letters) × (press_due h.case letters ≡ None))
 letters_settle None h = record { if_so = λ a. none_some a.0 a.1; only_so = λ e. never e; kept = λ _. refl }
@@ -105,10 +105,10 @@ read_decides (Ok asks) h =
 read_decides (Err e) h = record { if_so = λ a. absurd (let other = a.1 in let z : ◌≡◌ {A = ℕ} 0 1 = cc in omega arith); only_so = λ e'. never e'; kept = λ _. refl }
 
 pub line_decided : (line : List ℕ) (h : InHand) (t : Told) (after : InHand) → t ≡ (turn line h).told → after ≡ (turn line h).hand → Decided line h t after
-line_decided line h t after told_is hand-is =
+line_decided line h t after told_is hand_is =
     let s = read_decides (reading line) h in
     record {
       if_allowed = λ a. ap is_refused told_is ∙ s.if_so a;
       only_allowed = λ e. s.only_so (ap is_refused (sym told_is) ∙ e);
-      kept = λ e. hand-is ∙ s.kept (ap is_refused (sym told_is) ∙ e);
+      kept = λ e. hand_is ∙ s.kept (ap is_refused (sym told_is) ∙ e);
     }

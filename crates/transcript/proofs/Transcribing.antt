@@ -30,9 +30,9 @@ text_shows file =
 
 -- of two forms that cannot but be the same
 same_unless : (p q : Parts) → ((p ≡ q → ⊥) → ⊥) → p ≡ q
-same_unless p q Never-other =
+same_unless p q other =
     elim (same_parts p q) as (λ b. same_parts p q ≡ b → p ≡ q)
-    [ true ↦ (λ e. parts_same p q e) | false ↦ (λ e. absurd (Never-other (λ is. both_ways (same_parts p q) e (ap (λ x. same_parts p x) (sym is) ∙ parts_itself p)))) ] refl
+    [ true ↦ (λ e. parts_same p q e) | false ↦ (λ e. absurd (other (λ is. both_ways (same_parts p q) e (ap (λ x. same_parts p x) (sym is) ∙ parts_itself p)))) ] refl
 
 forms_decide : FormsDecide
 forms_decide = record {

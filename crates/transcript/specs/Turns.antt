@@ -133,11 +133,11 @@ drawn_sheet (Err e) old = old
 abbrev pub on_draw : InHand → Turn
 on_draw h =
     let due = draw_due h.case in
-    let answer-is = answer due (sheet_of h.case) in
+    let answer_is = answer due (sheet_of h.case) in
     record {
-      told = drawn_told answer-is;
-      hand = record { case = unless_due due (drawn h.case) h.case; sheet = drawn_sheet answer-is h.sheet };
-      calls = Draw answer-is ∷ [];
+      told = drawn_told answer_is;
+      hand = record { case = unless_due due (drawn h.case) h.case; sheet = drawn_sheet answer_is h.sheet };
+      calls = Draw answer_is ∷ [];
     }
 
 -- what is told of the answer to whoever holds a sheet
@@ -159,22 +159,22 @@ abbrev pub on_sign : Option Sheet → InHand → Turn
 on_sign None h = only_told (refused (OfSheet OtherCase)) h
 on_sign (Some sheet) h =
     let due = sign_due h.case sheet posting_room in
-    let answer-is = answer_with due (length (lines h.case.rows)) sheet in
+    let answer_is = answer_with due (length (lines h.case.rows)) sheet in
     record {
-      told = sheet_told answer-is (signed_off (lines h.case.rows));
-      hand = record { case = unless_due due (signed h.case) h.case; sheet = sheet_left answer-is };
-      calls = Sign sheet posting_room answer-is (unless_due due (lines h.case.rows) []) ∷ [];
+      told = sheet_told answer_is (signed_off (lines h.case.rows));
+      hand = record { case = unless_due due (signed h.case) h.case; sheet = sheet_left answer_is };
+      calls = Sign sheet posting_room answer_is (unless_due due (lines h.case.rows) []) ∷ [];
     }
 
 abbrev pub on_return : Option Sheet → InHand → Turn
 on_return None h = only_told (refused (OfSheet OtherCase)) h
 on_return (Some sheet) h =
     let due = sheet_due h.case sheet in
-    let answer-is = answer_with due (tt {0}) sheet in
+    let answer_is = answer_with due (tt {0}) sheet in
     record {
-      told = sheet_told answer-is given_back;
-      hand = record { case = unless_due due (returned h.case) h.case; sheet = sheet_left answer-is };
-      calls = Return sheet answer-is ∷ [];
+      told = sheet_told answer_is given_back;
+      hand = record { case = unless_due due (returned h.case) h.case; sheet = sheet_left answer_is };
+      calls = Return sheet answer_is ∷ [];
     }
 
 -- compare --------------------------------------------------------------------------------------------------------------

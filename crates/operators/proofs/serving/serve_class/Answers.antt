@@ -12,8 +12,8 @@ asked : (g : given.Over) (c : After-divide g) → Turn c.args.class c.args.class
 asked g c = turn c.args.class c.args.classes.now c.args.claims.now c.args.left c.claims_of-mine.result _ _ c.requires.few c.requires.small c.claims_of-mine.ensures.claims c.total_of.ensures.result c.min-share.ensures
 
 -- and gave its awards for it
-given-part : (g : given.Over) (c : After-divide g) → c.divide.new.out ≡ g.R.Rule.awards c.args.rule.now (take (length c.args.claims.now - 0) c.claims_of-mine.result) c.min-share.result
-given-part g c = asked_awards _ _ _ (asked g c).sound (asked g c).room _ _ _ c.divide.ensures.awards
+given_part : (g : given.Over) (c : After-divide g) → c.divide.new.out ≡ g.R.Rule.awards c.args.rule.now (take (length c.args.claims.now - 0) c.claims_of-mine.result) c.min-share.result
+given_part g c = asked_awards _ _ _ (asked g c).sound (asked g c).room _ _ _ c.divide.ensures.awards
 
 pub total_of-requires : goal.total_of-requires
 total_of-requires g c =
@@ -32,13 +32,13 @@ pub add_to-requires : goal.add_to-requires
 add_to-requires g c =
     let at = (goal.at.add_to-requires g c).After-divide in
     let rule = c.args.rule.now in
-    let shares = turn_shares (asked g at) (g.R.Rule.awards rule) (g.R.Rule.lawful rule) _ (given-part g at) in
+    let shares = turn_shares (asked g at) (g.R.Rule.awards rule) (g.R.Rule.lawful rule) _ (given_part g at) in
     record { long = omega (arith, shares.0); small = omega (arith, shares.1) }
 
 pub returns : goal.returns
 returns g c =
     let at = (goal.at.returns g c).After-divide in
-    let part-is = given-part g at in
+    let part_is = given_part g at in
     let mine_is = (asked g at).mine_is in
     let share_is = (asked g at).share_is in
     let added = c.add_to.ensures.awards in

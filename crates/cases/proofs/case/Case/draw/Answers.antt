@@ -24,8 +24,8 @@ returns-in-None c =
     let v = view c.args.self.now in
     let due = c.in-None.ensures.result in
     let rows = c.rows-rows.result.now in
-    let with-total : ℕ → Result Sheet CaseRefusal = λ t. Ok (record { number = v.number; rows = length rows; total = t }) in
+    let with_total : ℕ → Result Sheet CaseRefusal = λ t. Ok (record { number = v.number; rows = length rows; total = t }) in
     let with_rows : List Row → Result Sheet CaseRefusal = λ rs. Ok (record { number = v.number; rows = length rs; total = total (awards_of rs) }) in
-    let result = ap with-total c.total_award.ensures.result ∙ ap with_rows c.rows-rows.ensures.result ∙ ap (λ o. answer o (sheet_of v)) due in
+    let result = ap with_total c.total_award.ensures.result ∙ ap with_rows c.rows-rows.ensures.result ∙ ap (λ o. answer o (sheet_of v)) due in
     let after = ap (λ o. unless_due o (drawn v) v) due in
     record { result = result; case = after; history = continues (Draw _) v (drawn v) (result, after) }

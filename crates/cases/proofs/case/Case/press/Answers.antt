@@ -36,8 +36,8 @@ returns-else-self c =
     let letters = c.args.letters.now in
     let accepted = c.in-Ok.ensures.result in
     let due = press_passes v letters (known_if_accepted (letters_in letters) accepted) c.if-self.false in
-    let with-form : Parts → View = λ p. record { number = v.number; fund = v.fund; form = p; rows = v.rows; marked = false; out = v.out } in
+    let with_form : Parts → View = λ p. record { number = v.number; fund = v.fund; form = p; rows = v.rows; marked = false; out = v.out } in
     let result = ap (λ o. answer o tt) (sym due) in
     let formed = c.press_all.ensures.form ∙ pressed_if_accepted (letters_in letters) v.form accepted in
-    let after = ap with-form formed ∙ ap (λ o. unless_due o (letters_pressed v letters) v) (sym due) in
-    record { result = result; case = after; history = continues (Press letters (Ok tt)) v (with-form _) (result, after) }
+    let after = ap with_form formed ∙ ap (λ o. unless_due o (letters_pressed v letters) v) (sym due) in
+    record { result = result; case = after; history = continues (Press letters (Ok tt)) v (with_form _) (result, after) }

@@ -16,8 +16,8 @@ use Rattle.cases.proofs.case.Case.work_awards.Goals.{After-apply_form}
 classes_are : (g : given.Over) (c : After-apply_form g) → take (length c.rows-rows.result.now - 0) c.class_list-classes.result ≡ classes_of (view c.args.self.now).rows
 classes_are g c = front c.class_list-classes.result _ (length c.rows-rows.result.now) _ refl c.class_list-classes.ensures.classes ∙ ap classes_of c.rows-rows.ensures.result
 
-claims-are : (g : given.Over) (c : After-apply_form g) → take (length c.rows-rows.result.now - 0) c.claims_of-claims.result ≡ amounts (view c.args.self.now).rows
-claims-are g c = front c.claims_of-claims.result _ (length c.rows-rows.result.now) _ refl c.claims_of-claims.ensures.claims ∙ ap amounts c.rows-rows.ensures.result
+claims_are : (g : given.Over) (c : After-apply_form g) → take (length c.rows-rows.result.now - 0) c.claims_of-claims.result ≡ amounts (view c.args.self.now).rows
+claims_are g c = front c.claims_of-claims.result _ (length c.rows-rows.result.now) _ refl c.claims_of-claims.ensures.claims ∙ ap amounts c.rows-rows.ensures.result
 
 -- and no refusal is due for it
 none_due : (g : given.Over) (c : After-apply_form g) → pile_due true (take (length c.rows-rows.result.now - 0) c.class_list-classes.result) (take (length c.rows-rows.result.now - 0) c.claims_of-claims.result) c.args.self.now.fund (length c.args.awards.now) ≡ None
@@ -26,7 +26,7 @@ none_due g c =
     let table = c.args.self.now.table in
     let room = length c.args.awards.now in
     ap (λ (ks : List ℕ). pile_due true ks (take (length c.rows-rows.result.now - 0) c.claims_of-claims.result) (estate_of v) room) (classes_are g c)
-    ∙ ap (λ (cs : List ℕ). pile_due true (classes_of v.rows) cs (estate_of v) room) (claims-are g c)
+    ∙ ap (λ (cs : List ℕ). pile_due true (classes_of v.rows) cs (estate_of v) room) (claims_are g c)
     ∙ never_refused v room (omega (arith, table.few, table.rows.ok.0)) c.requires.room table.small table.classed c.requires.due
 
 pub unreachable-requires : goal.unreachable-requires
@@ -48,5 +48,5 @@ returns g c =
       awards = c.apply_form.ensures.awards
           ∙ ap (λ o. unless_due o (applied letters (take count c.class_list-classes.result) f claims (estate_of v)) c.args.awards.now) (none_due g after)
           ∙ ap (λ (ks : List ℕ). applied letters ks f claims (estate_of v)) (classes_are g after)
-          ∙ ap (λ (cs : List ℕ). applied letters (classes_of v.rows) f cs (estate_of v)) (claims-are g after);
+          ∙ ap (λ (cs : List ℕ). applied letters (classes_of v.rows) f cs (estate_of v)) (claims_are g after);
     }

@@ -33,6 +33,6 @@ returns c =
     let start = parts c.args.self.now in
     let all = pressed_all start (parts c.loop-byte.form) (letters_in letters)
     (none_left letters c.loop-byte.byte-index (parts c.loop-byte.form) (after start (letters_in letters)) (omega arith) c.loop-byte.invariant) in
-    let yes-to-all = all.0 in
-    let all-pressed = all.1 in
+    let yes_to_all = all.0 in
+    let all_pressed = all.1 in
     record { result = search rules; form = search rules }

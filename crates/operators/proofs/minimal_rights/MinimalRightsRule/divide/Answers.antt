@@ -14,8 +14,8 @@ asked : (g : given.Over) (c : After-divide g) → Parted c.args.claims.now c.arg
 asked g c = parted c.args.claims.now c.args.estate _ _ c.rights_of-own.result _ c.cut_claims-rest.result c.in_ok-total.ensures.result c.rights_of-own.ensures.rights c.total_of-own_total.ensures.result c.cut_claims-rest.ensures.claims
 
 -- and gave its awards for it
-given-rest : (g : given.Over) (c : After-divide g) → c.divide.new.out ≡ g.R.Rule.awards c.args.self.now.rule (take (length c.args.claims.now - 0) c.cut_claims-rest.result) (c.args.estate - c.total_of-own_total.result)
-given-rest g c = asked_awards _ _ _ (asked g c).rest_sound (asked g c).room_is _ _ _ c.divide.ensures.awards
+given_rest : (g : given.Over) (c : After-divide g) → c.divide.new.out ≡ g.R.Rule.awards c.args.self.now.rule (take (length c.args.claims.now - 0) c.cut_claims-rest.result) (c.args.estate - c.total_of-own_total.result)
+given_rest g c = asked_awards _ _ _ (asked g c).rest_sound (asked g c).room_is _ _ _ c.divide.ensures.awards
 
 pub total_of-own_total-requires : goal.total_of-own_total-requires
 total_of-own_total-requires g c =
@@ -41,7 +41,7 @@ pub add_to-requires : goal.add_to-requires
 add_to-requires g c =
     let at = (goal.at.add_to-requires g c).After-divide in
     let rule = c.args.self.now.rule in
-    let both = rights_and_awards (asked g at) (g.R.Rule.awards rule) (g.R.Rule.lawful rule) _ (given-rest g at) in
+    let both = rights_and_awards (asked g at) (g.R.Rule.awards rule) (g.R.Rule.lawful rule) _ (given_rest g at) in
     record { long = both.0; small = both.1 }
 
 pub returns : goal.returns
@@ -54,5 +54,5 @@ returns g c =
     let none : refusal ≡ None = c.in_ok-total.ensures.result.none in
     record {
       result = answered refusal none;
-      awards = awarded refusal none (minimal_rights f claims estate) c.args.out.now c.add_to.new.awards (rights_first (asked g at) f _ _ (given-rest g at) c.add_to.ensures.awards);
+      awards = awarded refusal none (minimal_rights f claims estate) c.args.out.now c.add_to.new.awards (rights_first (asked g at) f _ _ (given_rest g at) c.add_to.ensures.awards);
     }

@@ -25,8 +25,8 @@ loop-class-preserved g c =
     let is : class ≡ get_or (order_of self.order) place 0 = ap (λ ks. get_or ks place 0) c.classes-order.ensures.result in
     let answered = c.serve_class.ensures.result in
     let was = c.in_ok-left.was in
-    let less-left : c.in_ok-left.left ≡ left - class_share class self.classes claims left = cc in
-    so_far_more (order_of self.order) self.classes (g.R.Rule.awards self.rule) (g.R.Rule.lawful self.rule) claims c.args.estate passed.sound place c.loop-class.out left c.loop-class.invariant (omega (arith, length-order self.order)) class is _ _ less-left c.serve_class.ensures.awards
+    let less_left : c.in_ok-left.left ≡ left - class_share class self.classes claims left = cc in
+    so_far_more (order_of self.order) self.classes (g.R.Rule.awards self.rule) (g.R.Rule.lawful self.rule) claims c.args.estate passed.sound place c.loop-class.out left c.loop-class.invariant (omega (arith, length-order self.order)) class is _ _ less_left c.serve_class.ensures.awards
 
 pub returns : goal.returns
 returns g c =
