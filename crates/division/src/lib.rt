@@ -1,6 +1,7 @@
 // Division rules: a problem, the interface that every rule meets, and the bureau's four rules.
 #![tactic(auto)]
 
+pub mod amounts;
 pub mod equal_awards;
 mod level;
 pub mod priority;
