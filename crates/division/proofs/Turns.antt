@@ -1,6 +1,5 @@
 -- One turn more of the loops over the claims. Assumes nothing.
 use Rattle.std.proofs.Common.{◌≡◌, ℕ, zero, suc, ◌+◌, ◌-◌, ◌<◌, ◌≤◌, min, max, Bool, true, false, cond, List, [], ◌∷◌, ◌++◌, map, fold, count_by, length, get_or, take, drop, set, sym, ap, refl, ◌∙◌, append_assoc, append-nil, add-one, arith}
-use Rattle.std.specs.List.{refill}
 use Rattle.std.proofs.lemmas.List.{take_more_set, drop_more, take_all, drop_all}
 use Rattle.std.proofs.lemmas.List.Recursion.{is_count_by}
 use Rattle.division.specs.Amounts.{total}
@@ -11,13 +10,6 @@ use Rattle.division.specs.Units.{how_many}
 -- a list written from the front on: one place more, with what is to follow
 pub placed_more : (out : List ℕ) (i y : ℕ) (after : List ℕ) → i < length out → take (i + 1) (set out i y) ++ after ≡ take i out ++ (y ∷ after)
 placed_more out i y after h = ap (λ l. l ++ after) (take_more_set out i y h) ∙ append_assoc (take i out) (y ∷ []) after
-
--- a buffer written over from end to end holds what was written
-pub refilled : (before after : List ℕ) → length after ≡ length before → refill (length before) before after ≡ after
-refilled before after e =
-    ap (λ l. take (length before) (after ++ l)) (drop_all (length after) before (omega arith))
-    ∙ ap (take (length before)) (append-nil after)
-    ∙ take_all (length before) after (omega arith)
 
 -- a list written to the end
 pub placed_all : (out claims : List ℕ) (i : ℕ) (F : List ℕ → List ℕ) → F [] ≡ [] → length out ≡ length claims → length claims ≤ i → take i out ++ F (drop i claims) ≡ out

@@ -1,7 +1,9 @@
 -- What holds of lists of amounts: their lengths, what stands at a place, and what they add up to. Assumes nothing.
 -- A place past the end of a list counts as 0, so that no law on places needs a bound.
-use Rattle.std.specs.Prelude.{◌≡◌, ℕ, zero, suc, ◌+◌, ◌-◌, ◌<◌, ◌≤◌, min, List, [], ◌∷◌, length, take, slice_index, refl}
-use Rattle.std.proofs.Common.{ap, ◌∙◌, add-one, arith, ext_get_or}
+use Rattle.std.specs.Prelude.{◌≡◌, ℕ, zero, suc, ◌+◌, ◌-◌, ◌<◌, ◌≤◌, min, List, [], ◌∷◌, ◌++◌, length, take, slice_index, refl}
+use Rattle.std.proofs.Common.{ap, ◌∙◌, append-nil, add-one, arith, ext_get_or}
+use Rattle.std.specs.List.{refill}
+use Rattle.std.proofs.lemmas.List.{drop_all, take_all}
 use Rattle.division.specs.Amounts.{total, less, less_over, cut, plus, nothing}
 
 -- at every place the first list has no more than the second
@@ -126,3 +128,10 @@ nothing_left [] e = refl
 nothing_left (x ∷ xs) e =
     let none : x ≡ 0 = omega arith in
     ap (λ z. z ∷ xs) none ∙ ap (λ zs. 0 ∷ zs) (nothing_left xs (omega arith))
+
+-- a buffer written over from end to end holds what was written
+pub refilled : (before after : List ℕ) → length after ≡ length before → refill (length before) before after ≡ after
+refilled before after e =
+    ap (λ l. take (length before) (after ++ l)) (drop_all (length after) before (omega arith))
+    ∙ ap (take (length before)) (append-nil after)
+    ∙ take_all (length before) after (omega arith)

@@ -1,12 +1,11 @@
 use Rattle.std.proofs.Common.{◌≡◌, length, ap, sym, ◌∙◌}
 use Rattle.std.proofs.lemmas.List.{length-map}
 use Rattle.division.specs.Amounts.{less, less_over}
-use Rattle.division.specs.AmountLaws.{length-less_over, less_over_same}
+use Rattle.division.specs.AmountLaws.{length-less_over, less_over_same, refilled}
 use Rattle.division.specs.EqualAwards.{equal_awards}
 use Rattle.division.specs.EqualAwardsLawful.{equal_awards_lawful}
 use Rattle.division.specs.Talmud.{half, halves}
 use Rattle.division.specs.TalmudLawful.{halves_sound}
-use Rattle.division.proofs.Turns.{refilled}
 use Rattle.division.proofs.talmud.pay_losses.Goals as goal
 
 pub returns : goal.returns
