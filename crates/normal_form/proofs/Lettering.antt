@@ -3,8 +3,8 @@ use Rattle.std.proofs.Common.{◌≡◌, ℕ, ◌+◌, ◌<◌, Bool, true, fals
 use Rattle.std.proofs.lemmas.List.{append_assoc, map-append, length-append, length-drop, length_push, drop_more, set_at}
 use Rattle.normal_form.specs.declared.letter.Operator.{Operator}
 use Rattle.normal_form.specs.declared.letter.Operator.TheVariants.{Dual, Truncation, MinimalRights}
-use Rattle.normal_form.specs.declared.form.Order.{Order}
-use Rattle.normal_form.specs.declared.form.Order.TheVariants.{Unordered, SeniorFirst, JuniorFirst}
+use Rattle.operators.specs.declared.classes.ClassOrder.{ClassOrder}
+use Rattle.operators.specs.declared.classes.ClassOrder.TheVariants.{SeniorFirst, JuniorFirst}
 use Rattle.normal_form.specs.Forms.{Parts, where_so, seniority_letter, is_inner, is_outer, byte_of, letters_of}
 use Rattle.normal_form.specs.FormText.{as_text, dual_byte, inner_byte, outer_byte, order_byte, Begins}
 
@@ -26,10 +26,10 @@ byte_so : (b : Bool) (o : Operator) → as_text (cond b (Some (byte_of o)) None)
 byte_so true o = refl
 byte_so false o = refl
 
-byte_order : (order : Order) → as_text (order_byte order) ≡ map byte_of (seniority_letter order)
-byte_order Unordered = refl
-byte_order SeniorFirst = refl
-byte_order JuniorFirst = refl
+byte_order : (order : Option ClassOrder) → as_text (order_byte order) ≡ map byte_of (seniority_letter order)
+byte_order None = refl
+byte_order (Some SeniorFirst) = refl
+byte_order (Some JuniorFirst) = refl
 
 six : (a b c d e f : List ℕ) → (((((([] ++ a) ++ b) ++ c) ++ d) ++ e) ++ f) ≡ a ++ (b ++ (c ++ (d ++ (e ++ f))))
 six a b c d e f = simp append_assoc

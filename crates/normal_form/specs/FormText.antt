@@ -1,7 +1,7 @@
 -- Writing a form letter by letter into a list of bytes. Assumes nothing.
 use Rattle.std.specs.Prelude.{◌≡◌, ℕ, Bool, cond, List, [], ◌∷◌, ◌++◌, length, drop, Some, None, Option}
-use Rattle.normal_form.specs.declared.form.Order.{Order}
-use Rattle.normal_form.specs.declared.form.Order.TheVariants.{Unordered, SeniorFirst, JuniorFirst}
+use Rattle.operators.specs.declared.classes.ClassOrder.{ClassOrder}
+use Rattle.operators.specs.declared.classes.ClassOrder.TheVariants.{SeniorFirst, JuniorFirst}
 use Rattle.normal_form.specs.declared.form.Place.{Place}
 use Rattle.normal_form.specs.Forms.{is_inner, is_outer}
 
@@ -23,10 +23,10 @@ abbrev pub outer_byte : Place → ℕ → Option ℕ
 outer_byte place byte = cond (is_outer place) (Some byte) None
 
 -- the byte of the seniority letter
-abbrev pub order_byte : Order → Option ℕ
-order_byte Unordered = None
-order_byte SeniorFirst = Some 115
-order_byte JuniorFirst = Some 114
+abbrev pub order_byte : Option ClassOrder → Option ℕ
+order_byte None = None
+order_byte (Some SeniorFirst) = Some 115
+order_byte (Some JuniorFirst) = Some 114
 
 -- a list that begins with a text of so many bytes, and behind it is as it was at the start
 pub record Begins (text : List ℕ) (size : ℕ) (out start : List ℕ) : Type 0 where

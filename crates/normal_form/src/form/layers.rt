@@ -9,7 +9,7 @@ ghost use Rattle.normal_form.specs.Forms.{letters_of};
 ghost use Rattle.normal_form.specs.FormParts.{parts};
 ghost use Rattle.normal_form.specs.Layers.{from_outer_rights, from_outer_truncation, from_seniority, from_inner_rights, from_inner_truncation};
 
-use crate::form::{Form, Order, Place};
+use crate::form::{Form, Place};
 use division::refusal::RuleRefusal;
 use division::rule::Rule;
 use operators::borrowed::Borrowed;
@@ -113,25 +113,8 @@ fn seniority<R: Rule>(
     ensures awards { out.new ≡ applied (from_seniority (parts form.now)) classes.now (R.Rule.awards rule.now) claims.now estate }
 {
     match form.order {
-        Order::Unordered => outer_truncation(form, rule, claims, estate, out),
-        Order::SeniorFirst => in_order(
-            form,
-            rule,
-            ClassOrder::SeniorFirst,
-            classes,
-            claims,
-            estate,
-            out,
-        ),
-        Order::JuniorFirst => in_order(
-            form,
-            rule,
-            ClassOrder::JuniorFirst,
-            classes,
-            claims,
-            estate,
-            out,
-        ),
+        None => outer_truncation(form, rule, claims, estate, out),
+        Some(order) => in_order(form, rule, order, classes, claims, estate, out),
     }
 }
 
