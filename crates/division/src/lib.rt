@@ -2,6 +2,7 @@
 #![tactic(auto)]
 
 pub mod amounts;
+pub mod base_rule;
 pub mod equal_awards;
 mod level;
 pub mod priority;

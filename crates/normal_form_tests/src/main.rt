@@ -2,11 +2,7 @@
 // letters one by one (tests/plain_letters.py); and tests refusals in their order.
 #![tactic(auto)]
 
-use division::equal_awards::EqualAwards;
-use division::priority::Priority;
-use division::proportion::Proportion;
-use division::rule::Rule;
-use division::talmud::Talmud;
+use division::base_rule::BaseRule;
 use normal_form::pile::apply;
 use std::io;
 
@@ -37,47 +33,40 @@ const CLASSES: [u8; 5] = [2, 1, 8, 2, 1];
 
 const ESTATES: [u32; 5] = [0, 9, 36, 60, 73];
 
-fn show<R: Rule>(
-    rt: &HostRuntime,
-    name: &str,
-    rule: &R,
-    letters: &str,
-    estate: u32,
-) -> io::Result<()> {
+const RULES: [BaseRule; 4] = [
+    BaseRule::Priority,
+    BaseRule::Equal,
+    BaseRule::Proportion,
+    BaseRule::Talmud,
+];
+
+fn show(rt: &HostRuntime, rule: BaseRule, letters: &str, estate: u32) -> io::Result<()> {
     let mut awards = [0; 5];
     match apply(
         letters.as_bytes(),
-        rule,
+        &rule,
         &CLASSES,
         &CLAIMS,
         estate,
         &mut awards,
     ) {
         Ok(()) => {
-            print!(rt; "{name},{letters},{estate}:")?;
-            for award in awards.iter() {
+            print!(rt; "{rule},{letters},{estate}:")?;
+            for award in awards {
                 print!(rt; " {award}")?;
             }
             println!(rt; "")
         }
-        Err(refusal) => {
-            let number = refusal.number();
-            println!(rt; "{name},{letters},{estate}: refused {number}")
-        }
+        Err(refusal) => println!(rt; "{rule},{letters},{estate}: refused {refusal}"),
     }
-}
-
-fn show_rules(rt: &HostRuntime, letters: &str, estate: u32) -> io::Result<()> {
-    show(rt, "priority", &Priority, letters, estate)?;
-    show(rt, "equal", &EqualAwards, letters, estate)?;
-    show(rt, "proportion", &Proportion, letters, estate)?;
-    show(rt, "talmud", &Talmud, letters, estate)
 }
 
 fn main(rt: HostRuntime) -> io::Result<()> {
     for letters in LETTERS {
         for estate in ESTATES {
-            show_rules(&rt, letters, estate)?;
+            for rule in RULES {
+                show(&rt, rule, letters, estate)?;
+            }
         }
     }
     Ok(())
@@ -86,6 +75,9 @@ fn main(rt: HostRuntime) -> io::Result<()> {
 #[cfg(test)]
 mod tests {
     use super::*;
+    use division::priority::Priority;
+    use division::rule::Rule;
+    use division::talmud::Talmud;
     use division_tests::Ballot;
     use std::process::Abort;
     use std::test::Fail;

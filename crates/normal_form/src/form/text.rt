@@ -1,8 +1,7 @@
 // How a form is written.
-ghost use Rattle.std.specs.Prelude.{◌≡◌, ◌≤◌, ◌++◌, [], length, drop, Some, if◌then◌else◌};
-ghost use Rattle.normal_form.specs.Forms.{written};
+ghost use Rattle.std.specs.Prelude.{◌≡◌, ◌≤◌, ◌++◌, [], length, map, drop, Some, if◌then◌else◌};
+ghost use Rattle.normal_form.specs.Forms.{written, byte_of, seniority_letter};
 ghost use Rattle.normal_form.specs.FormParts.{parts};
-ghost use Rattle.normal_form.specs.FormText.{order_byte, as_text};
 
 use crate::form::{Form, Place};
 use arrayvec::ArrayString;
@@ -21,7 +20,7 @@ fn letter_if(present: bool, letter: &'static str) -> &'static str
 
 // The seniority letter, or nothing.
 fn seniority(order: Option<ClassOrder>) -> &'static str
-    ensures result { result.now ≡ as_text (order_byte order) }
+    ensures result { result.now ≡ map byte_of (seniority_letter order) }
 {
     match order {
         None => "",
