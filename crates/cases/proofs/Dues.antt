@@ -19,3 +19,27 @@ by_sheet_due P (Some x) value sheet new old r y e f accepted refused = subst (λ
 pub none_due : {R : Type 0} (b : Bool) (e : R) (rest : Option R) → cond b (Some e) rest ≡ None → (b ≡ false) × (rest ≡ None)
 none_due true e rest h = (cc, cc)
 none_due false e rest h = (refl, h)
+
+-- what an answer says of the refusal that is due
+pub due_if_err : {R X : Type 0} (o : Option R) (value : X) (e : R) → Err e ≡ answer o value → o ≡ Some e
+due_if_err None value e is = (cc)
+due_if_err (Some x) value e is = (cc)
+
+pub none_if_ok : {R X : Type 0} (o : Option R) (value x : X) → Ok x ≡ answer o value → o ≡ None
+none_if_ok None value x is = refl
+none_if_ok (Some e) value x is = (cc)
+
+pub due_if_sheet_err : {X : Type 0} (o : Option SheetRefusal) (value : X) (sheet : Sheet) (e : Sheet × SheetRefusal) → Err e ≡ answer_with o value sheet → o ≡ Some e.1
+due_if_sheet_err None value sheet e is = (cc)
+due_if_sheet_err (Some x) value sheet e is = (cc)
+
+pub none_if_sheet_ok : {X : Type 0} (o : Option SheetRefusal) (value x : X) (sheet : Sheet) → Ok x ≡ answer_with o value sheet → o ≡ None
+none_if_sheet_ok None value x sheet is = refl
+none_if_sheet_ok (Some e) value x sheet is = (cc)
+
+-- and what is kept then: what stood, or what the call makes
+pub kept : {R X : Type 0} (o : Option R) (e : R) (new old : X) → o ≡ Some e → old ≡ unless_due o new old
+kept o e new old due = rw due
+
+pub made : {R X : Type 0} (o : Option R) (new old w : X) → o ≡ None → w ≡ new → w ≡ unless_due o new old
+made o new old w none is = rw none is

@@ -1,6 +1,8 @@
 -- The loops over a table's rows, and what the table's calls keep of its rows. Assumes nothing.
-use Rattle.std.proofs.Common.{◌≡◌, ℕ, zero, suc, ◌+◌, ◌<◌, true, leb, List, [], ◌∷◌, ◌++◌, map, length, get_or, take, set, sym, refl, ap, ◌∙◌, add-one, arith}
+use Rattle.std.proofs.Common.{◌≡◌, ℕ, zero, suc, ◌+◌, ◌<◌, true, leb, List, [], ◌∷◌, ◌++◌, map, length, get_or, take, set, sum, sym, refl, ap, ◌∙◌, add-one, arith}
+use Rattle.std.specs.List.{AllZip}
 use Rattle.std.proofs.lemmas.List.{take_more_set, map_more, map-set, set-get_or}
+use Rattle.std.proofs.lemmas.List.Recursion.{is_sum_by}
 use Rattle.std.proofs.lemmas.Bool.{and_parts, leb-true}
 use Rattle.division.specs.Amounts.{total}
 use Rattle.operators.specs.Operators.{Classed, last_class}
@@ -65,3 +67,14 @@ amounts_settled (row ∷ rows) = ap (λ l. row.amount ∷ l) (amounts_settled ro
 pub classes_settled : (rows : List Row) → classes_of (map settled rows) ≡ classes_of rows
 classes_settled [] = refl
 classes_settled (row ∷ rows) = ap (λ l. row.class ∷ l) (classes_settled rows)
+
+-- what a chain adds up is the total
+pub sum_is_total : (xs : List ℕ) → sum xs ≡ total xs
+sum_is_total xs = sym (is_sum_by total (λ x. x) refl (λ _ _. refl) xs)
+
+-- a list made value by value is a map
+pub made_is_map : {A B : Type 0} (v : A → B) (R : A → B → Type 0) (xs : List A) (ys : List B) → AllZip R xs ys → ((x : A) (y : B) → R x y → y ≡ v x) → ys ≡ map v xs
+made_is_map v R [] [] h each = refl
+made_is_map v R [] (y ∷ ys) h each = absurd h
+made_is_map v R (x ∷ xs) [] h each = absurd h
+made_is_map v R (x ∷ xs) (y ∷ ys) h each = cc (each x y h.0, made_is_map v R xs ys h.1 each)
