@@ -25,14 +25,6 @@ pub due_if_err : {R X : Type 0} (o : Option R) (value : X) (e : R) → Err e ≡
 due_if_err None value e is = (cc)
 due_if_err (Some x) value e is = (cc)
 
-pub none_if_ok : {R X : Type 0} (o : Option R) (value x : X) → Ok x ≡ answer o value → o ≡ None
-none_if_ok None value x is = refl
-none_if_ok (Some e) value x is = (cc)
-
-pub due_if_sheet_err : {X : Type 0} (o : Option SheetRefusal) (value : X) (sheet : Sheet) (e : Sheet × SheetRefusal) → Err e ≡ answer_with o value sheet → o ≡ Some e.1
-due_if_sheet_err None value sheet e is = (cc)
-due_if_sheet_err (Some x) value sheet e is = (cc)
-
 pub none_if_sheet_ok : {X : Type 0} (o : Option SheetRefusal) (value x : X) (sheet : Sheet) → Ok x ≡ answer_with o value sheet → o ≡ None
 none_if_sheet_ok None value x sheet is = refl
 none_if_sheet_ok (Some e) value x sheet is = (cc)

@@ -1,7 +1,7 @@
-use Rattle.std.proofs.Common.{◌≡◌, true, length, vec_items, None, sym, ap, ◌∙◌, arith}
+use Rattle.std.proofs.Common.{◌≡◌, true, length, None, ap, ◌∙◌, arith}
 use lib.ListN.{length-map}
 use Rattle.normal_form.specs.Piles.{pile_due}
-use Rattle.cases.specs.Rows.{amounts, classes_of}
+use Rattle.cases.specs.Rows.{classes_of}
 use Rattle.cases.specs.Cases.{estate_of}
 use Rattle.cases.specs.CaseViews.{view}
 use Rattle.cases.proofs.Divisions.{never_refused}

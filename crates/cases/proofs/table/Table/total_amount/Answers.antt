@@ -1,4 +1,4 @@
-use Rattle.std.proofs.Common.{◌≡◌, map, sum, vec_items, ◌∙◌, ap, rules, arith, tests}
+use Rattle.std.proofs.Common.{◌≡◌, sum, vec_items, ◌∙◌, rules, arith}
 use Rattle.std.proofs.iter.runs.Made.{chains}
 use Rattle.std.proofs.iter.runs.Sources.{sums}
 use Rattle.std.proofs.lemmas.List.Sums.{sum-map}

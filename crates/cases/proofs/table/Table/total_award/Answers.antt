@@ -1,9 +1,7 @@
-use Rattle.std.proofs.Common.{◌≡◌, map, sum, vec_items, ◌∙◌, ap, rules, arith, tests}
+use Rattle.std.proofs.Common.{◌≡◌, sum, vec_items, ◌∙◌, rules, arith, tests}
 use Rattle.std.proofs.iter.runs.Made.{chains}
-use Rattle.std.proofs.iter.runs.Sources.{sums}
 use Rattle.std.proofs.lemmas.Iterator.{YieldsList-from_slice}
 use Rattle.std.proofs.lemmas.Iterator.Adapters.{fits_from_length, at_most_from_yields_List}
-use Rattle.std.proofs.lemmas.List.Sums.{sum-map}
 use Rattle.cases.specs.Rows.{awards_of}
 use Rattle.cases.proofs.Tables.{sum_is_total}
 use Rattle.cases.proofs.table.Table.total_award.Goals as goal
