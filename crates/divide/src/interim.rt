@@ -1,6 +1,6 @@
 // Works one estate through a case: two interim payments and a final one, with a claim amended and more letters pressed
 // between, and prints the postings and each claimant's sum of postings beside his award.
-ghost use Rattle.std.specs.Prelude.{◌≡◌, true, IfOk};
+ghost use Rattle.std.specs.Prelude.{◌≡◌, true};
 ghost use Rattle.cases.specs.Cases.{is_its_sheet};
 ghost use Rattle.cases.specs.CaseViews.{view};
 
@@ -26,16 +26,8 @@ struct Payment {
     fund: u32,
 }
 
-fn drawn(case: &mut Case) -> Result<Sheet, CaseRefusal>
-    ensures its { IfOk result (λ sheet. is_its_sheet (view case.new) sheet ≡ true) }
-{
-    match case.draw() {
-        Ok(sheet) => Ok(sheet),
-        Err(refusal) => Err(refusal),
-    }
-}
-
-// A sheet goes back to its own case, which never refuses it.
+// A sheet goes back to its own case, which never refuses it. This is no public call of the case, since only a requires
+// can say whose sheet it is.
 fn give_back(case: &mut Case, sheet: Sheet)
     requires its { is_its_sheet (view case.old) sheet ≡ true }
 {
@@ -47,7 +39,7 @@ fn give_back(case: &mut Case, sheet: Sheet)
 
 // Signs the case off into the list and answers how many postings were written; 0 where the list was too short.
 fn signed(case: &mut Case, postings: &mut [Posting]) -> Result<usize, CaseRefusal> {
-    let sheet = drawn(case)?;
+    let sheet = case.draw()?;
     match case.sign(sheet, postings) {
         Ok(count) => Ok(count),
         Err((sheet, _)) => {
