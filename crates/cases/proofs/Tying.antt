@@ -3,6 +3,7 @@ use Rattle.std.proofs.Common.{◌≡◌, ℕ, suc, ◌+◌, ◌<◌, ◌≤◌, 
 use lib.ListN.{length-map}
 use Rattle.std.proofs.lemmas.List.{map_push, length_push}
 use Rattle.std.proofs.lemmas.Bool.{and_parts, and_from, or_parts, or_from, not-false, both_ways, ltb-false, leb-false, eqb-false, ne_eqb}
+use Rattle.std.proofs.lemmas.Bool.Decides.{nat_tests}
 use Rattle.division.specs.Amounts.{total}
 use Rattle.division.specs.Problem.{Meaning, Lawful, Sound, most_claims, most_total}
 use Rattle.operators.specs.Operators.{Classed}
@@ -221,10 +222,6 @@ tied_new number = record {
   worked_is = λ e n. refl;
 }
 
--- no mark stands where it was taken away
-unmarked : {P : Type 0} → false ≡ true → P
-unmarked e = absurd (both_ways false refl e)
-
 module _ (l : Ledger) (v : View) (t : Tied l v) where
   amounts_tied : map (λ (entry : Entry). entry.amount) l.entries ≡ amounts v.rows
   amounts_tied = ap (map (λ (entry : Entry). entry.amount)) t.entries ∙ amounts_are v.rows
@@ -237,13 +234,6 @@ module _ (l : Ledger) (v : View) (t : Tied l v) where
 
   listed_tied : (n : ℕ) → listed n l.entries ≡ on_table n v.rows
   listed_tied n = ap (listed n) t.entries ∙ listed_is n v.rows
-
-  -- what the tests of the table say of the entries
-  room_tied : leb most_claims (length v.rows) ≡ false → length l.entries < most_claims
-  room_tied passes = omega (arith, length_tied, leb-false most_claims (length v.rows) passes)
-
-  small_tied : (amount : ℕ) → ltb most_total (total (amounts v.rows) + amount) ≡ false → total (map (λ (entry : Entry). entry.amount) l.entries) + amount ≤ most_total
-  small_tied amount passes = omega (arith, ap total amounts_tied, ltb-false most_total (total (amounts v.rows) + amount) passes)
 
   classed_tied : Classed (classes_of v.rows)
   classed_tied = classed_if_tested (classes_of v.rows) (ap all_classed (sym classes_tied) ∙ t.kept.classed)
@@ -273,80 +263,67 @@ module _ (l : Ledger) (v : View) (t : Tied l v) where
 
   pub tied_admit : (number amount class : ℕ) → admit_due v number amount class ≡ None → Tied (fed (Admit number amount class (Ok tt)) l) (admitted v number amount class)
   tied_admit number amount class none =
-      let total-passes = none_due _ _ _ none in
-      let class_passes = none_due _ _ _ total-passes.1 in
-      let out_passes = none_due _ _ _ class_passes.1 in
-      let number_passes = none_due _ _ _ out_passes.1 in
-      let table_passes = none_due _ _ _ number_passes.1 in
-      let room_passes = none_due _ _ _ table_passes.1 in
+      let is_class : is_class_number class ≡ true = grind (arith, nat_tests) in
+      let room : length v.rows < most_claims = grind (arith, nat_tests) in
+      let small : total (amounts v.rows) + amount ≤ most_total = grind (arith, nat_tests) in
+      let other : on_table number v.rows ≡ false = grind (arith, nat_tests) in
+      let in_hand : v.out ≡ false = grind (arith, nat_tests) in
       let new : Entry = record { number = number; amount = amount; class = class } in
       record {
         entries = ap (λ es. es ++ new ∷ []) t.entries ∙ sym (map_push entry_of v.rows (new_row number amount class));
-        kept = kept_more new l.entries t.kept
-            (not-false (is_class_number class) class_passes.0)
-            (room_tied room_passes.0)
-            (small_tied amount total-passes.0)
-            (listed_tied number ∙ table_passes.0);
+        kept = kept_more new l.entries t.kept is_class (omega (arith, length_tied)) (omega (arith, ap total amounts_tied)) (listed_tied number ∙ other);
         fund = t.fund;
         form = t.form;
-        out_marked = λ out. absurd (both_ways v.out out_passes.0 out);
+        out_marked = λ out. cc;
         paid_is = λ n. t.paid_is n ∙ sym (paid_admitted n number amount class v.rows);
-        worked_is = λ e. unmarked e;
+        worked_is = λ e. cc;
       }
 
   pub tied_amend : (number amount : ℕ) → amend_due v number amount ≡ None → Tied (fed (Amend number amount (Ok tt)) l) (amended v number amount)
   tied_amend number amount none =
-      let total-passes = none_due _ _ _ none in
-      let out_passes = none_due _ _ _ total-passes.1 in
-      let number_passes = none_due _ _ _ out_passes.1 in
-      let table_passes = none_due _ _ _ number_passes.1 in
-      let on = not-false (on_table number v.rows) table_passes.0 in
       let rows = with_amount number amount v.rows in
-      let small : total (amounts rows) ≤ most_total =
-      ltb-false most_total (total (amounts rows)) (sym (ap (λ b. b && ltb most_total (total (amounts rows))) on) ∙ total-passes.0) in
+      let small : total (amounts rows) ≤ most_total = grind (arith, nat_tests) in
+      let in_hand : v.out ≡ false = grind (arith, nat_tests) in
       let same : re_entered number amount l.entries ≡ map entry_of rows = ap (re_entered number amount) t.entries ∙ sym (entries_amended number amount v.rows) in
       record {
         entries = same;
         kept = kept_re_entered number amount l.entries t.kept (omega (arith, ap (λ es. total (map (λ (entry : Entry). entry.amount) es)) same, ap total (amounts_are rows)));
         fund = t.fund;
         form = t.form;
-        out_marked = λ out. absurd (both_ways v.out out_passes.0 out);
+        out_marked = λ out. cc;
         paid_is = λ n. t.paid_is n ∙ sym (paid_amended n number amount v.rows);
-        worked_is = λ e. unmarked e;
+        worked_is = λ e. cc;
       }
 
   pub tied_fund : (amount : ℕ) → fund_due v amount ≡ None → Tied (fed (Fund amount (Ok tt)) l) (funded v amount)
   tied_fund amount none =
-      let total-passes = none_due _ _ _ none in
-      let out_passes = none_due _ _ _ total-passes.1 in
+      let in_hand : v.out ≡ false = grind (arith, nat_tests) in
       record {
         entries = t.entries;
         kept = t.kept;
         fund = refl;
         form = t.form;
-        out_marked = λ out. absurd (both_ways v.out out_passes.0 out);
+        out_marked = λ out. cc;
         paid_is = t.paid_is;
-        worked_is = λ e. unmarked e;
+        worked_is = λ e. cc;
       }
 
   pub tied_press : (letters : List ℕ) → press_due v letters ≡ None → Tied (fed (Press letters (Ok tt)) l) (letters_pressed v letters)
   tied_press letters none =
-      let letters_pass = none_due _ _ _ none in
-      let out_passes = none_due _ _ _ letters_pass.1 in
+      let in_hand : v.out ≡ false = grind (arith, nat_tests) in
       record {
         entries = t.entries;
         kept = t.kept;
         fund = t.fund;
         form = ap (λ p. pressed_in_turn p (operators_in letters)) t.form ∙ sym (pressed_joined no_letters l.letters (operators_in letters));
-        out_marked = λ out. absurd (both_ways v.out out_passes.0 out);
+        out_marked = λ out. cc;
         paid_is = t.paid_is;
-        worked_is = λ e. unmarked e;
+        worked_is = λ e. cc;
       }
 
   pub tied_divide : (f : Meaning) → Lawful f → divide_due v ≡ None → Tied (fed (Divide f (Ok tt)) l) (divided v f)
   tied_divide f law none =
-      let total-passes = none_due _ _ _ none in
-      let covered : v.fund ≤ total (amounts v.rows) = ltb-false _ _ total-passes.0 in
+      let covered : v.fund ≤ total (amounts v.rows) = grind (arith, nat_tests) in
       record {
         entries = t.entries ∙ sym (entries_awarded (awards_by v f) v.rows);
         kept = t.kept;
@@ -362,14 +339,13 @@ module _ (l : Ledger) (v : View) (t : Tied l v) where
 
   pub tied_draw : draw_due v ≡ None → Tied l (drawn v)
   tied_draw none =
-      let out_passes = none_due _ _ _ none in
-      let mark_passes = none_due _ _ _ out_passes.1 in
+      let marked : v.marked ≡ true = grind (arith, nat_tests) in
       record {
         entries = t.entries;
         kept = t.kept;
         fund = t.fund;
         form = t.form;
-        out_marked = λ out. not-false v.marked mark_passes.0;
+        out_marked = λ out. marked;
         paid_is = t.paid_is;
         worked_is = t.worked_is;
       }
@@ -377,8 +353,8 @@ module _ (l : Ledger) (v : View) (t : Tied l v) where
   -- a sheet of the case says that the awards are worked
   pub sheet_marked : (sheet : Sheet) (room : ℕ) → sign_due v sheet room ≡ None → v.marked ≡ true
   sheet_marked sheet room none =
-      let its = not-false (is_its_sheet v sheet) (none_due _ _ _ none).0 in
-      t.out_marked (and_parts v.out (eqb sheet.number v.number) its).0
+      let out : v.out ≡ true = grind (arith, nat_tests) in
+      t.out_marked out
 
   pub tied_sign : (sheet : Sheet) (room count : ℕ) (postings : List Posting) → sign_due v sheet room ≡ None → Tied (fed (Sign sheet room (Ok count) postings) l) (signed v)
   tied_sign sheet room count postings none = record {
@@ -388,7 +364,7 @@ module _ (l : Ledger) (v : View) (t : Tied l v) where
     form = t.form;
     out_marked = λ e. e;
     paid_is = λ n. t.worked_is (sheet_marked sheet room none) n ∙ sym (paid_settled n v.rows);
-    worked_is = λ e. unmarked e;
+    worked_is = λ e. cc;
   }
 
   pub tied_return : Tied l (returned v)
@@ -397,7 +373,7 @@ module _ (l : Ledger) (v : View) (t : Tied l v) where
     kept = t.kept;
     fund = t.fund;
     form = t.form;
-    out_marked = λ e. unmarked e;
+    out_marked = λ e. cc;
     paid_is = t.paid_is;
     worked_is = t.worked_is;
   }
