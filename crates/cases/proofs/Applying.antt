@@ -1,8 +1,8 @@
 -- The tests of every call stand in the order of their numbers, and each says in bits what its refusal says in words; so
 -- each call answers the smallest refusal that applies. Assumes nothing.
-use Rattle.std.proofs.Common.{◌≡◌, ℕ, zero, suc, ◌+◌, ◌≤◌, Bool, true, not, eqb, ltb, leb, ◌⊎◌, List, [], ◌∷◌, length, is_some, Some, None, Option, refl, ap, ◌∙◌, inl, inr, ⊎_elim, arith}
+use Rattle.std.proofs.Common.{◌≡◌, ℕ, zero, suc, ◌+◌, ◌≤◌, Bool, true, not, eqb, ◌⊎◌, List, [], ◌∷◌, length, is_some, Some, None, Option, refl, ap, ◌∙◌, inl, inr, ⊎_elim, arith}
 use Rattle.std.specs.List.{ContainsAt as Has}
-use Rattle.std.proofs.lemmas.Bool.{both_ways, not-true, not_from_false, cases_Bool, ltb-true, lt-ltb, leb-true, le-leb, eqb-true, eq-eqb, and_parts, and_from, or_cases, or_left, or_right, false≢true}
+use Rattle.std.proofs.lemmas.Bool.{both_ways, not-true, not_from_false, cases_Bool, ltb-true, leb-true, eqb-true, eq-eqb, and_parts, or_cases, or_left, or_right, false≢true}
 use Rattle.std.proofs.lemmas.Bool.Decides.{nat_tests}
 use Rattle.division.specs.Amounts.{total}
 use Rattle.division.specs.Problem.{most_claims, most_total}
@@ -20,7 +20,7 @@ use Rattle.cases.specs.declared.refusal.CaseRefusal.{CaseRefusal}
 use Rattle.cases.specs.declared.refusal.CaseRefusal.TheVariants.{TotalAboveLimit, EstateAboveTotal, ClassOutsideRange, Letter, SheetOut, ReservedNumber, NumberTaken, NumberNotOnTable, TableFull, NotWorked}
 use Rattle.cases.specs.declared.refusal.SheetRefusal.{SheetRefusal}
 use Rattle.cases.specs.declared.refusal.SheetRefusal.TheVariants.{OtherCase, ListTooShort}
-use Rattle.cases.specs.Rows.{estate_number, owner_number, is_reserved_number, amounts, on_table, with_amount, lines}
+use Rattle.cases.specs.Rows.{is_reserved_number, amounts, on_table, with_amount, lines}
 use Rattle.cases.specs.Cases.{View, estate_of, is_its_sheet, case_refusal_number, sheet_refusal_number, admit_tests, amend_tests, fund_tests, press_tests, divide_tests, draw_tests, sheet_tests, sign_tests}
 use Rattle.cases.specs.Applying.{OnTable, Reserved, AdmitApplies, AmendApplies, FundApplies, PressApplies, DivideApplies, DrawApplies, SheetApplies, SignApplies, SmallestInWords}
 

@@ -1,5 +1,5 @@
 -- The run with two signings is a past of a case, computed call by call. Assumes nothing.
-use Rattle.std.proofs.Common.{◌≡◌, ℕ, pos, refl, arith}
+use Rattle.std.proofs.Common.{refl, arith}
 use Rattle.std.proofs.lemmas.Int.{ints}
 use Rattle.division.specs.EqualAwardsLawful.{equal_awards_lawful}
 use Rattle.division.specs.ProportionLawful.{proportion_lawful}

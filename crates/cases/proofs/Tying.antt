@@ -1,8 +1,8 @@
 -- What ties a case to the plain ledger of its past, and that every call keeps it. Assumes nothing.
-use Rattle.std.proofs.Common.{◌≡◌, ℕ, suc, ◌+◌, ◌<◌, ◌≤◌, Bool, true, false, cond, ◌&&◌, ◌||◌, eqb, ltb, leb, List, [], ◌∷◌, ◌++◌, map, length, None, Ok, sym, refl, ap, ◌∙◌, subst, arith}
+use Rattle.std.proofs.Common.{◌≡◌, ℕ, ◌+◌, ◌<◌, ◌≤◌, Bool, true, false, cond, ◌||◌, eqb, List, [], ◌∷◌, ◌++◌, map, length, None, Ok, sym, refl, ap, ◌∙◌, subst, arith}
 use lib.ListN.{length-map}
 use Rattle.std.proofs.lemmas.List.{map_push, length_push}
-use Rattle.std.proofs.lemmas.Bool.{and_parts, and_from, or_parts, or_from, not-false, both_ways, ltb-false, leb-false, eqb-false, ne_eqb}
+use Rattle.std.proofs.lemmas.Bool.{or_parts, eqb-false, ne_eqb}
 use Rattle.std.proofs.lemmas.Bool.Decides.{nat_tests}
 use Rattle.division.specs.Amounts.{total}
 use Rattle.division.specs.Problem.{Meaning, Lawful, Sound, most_claims, most_total}
@@ -18,11 +18,11 @@ use Rattle.normal_form.proofs.Theorems.{form_says_all}
 use Rattle.cases.specs.declared.row.Row.{Row}
 use Rattle.cases.specs.declared.row.Posting.{Posting}
 use Rattle.cases.specs.declared.sheet.Sheet.{Sheet}
-use Rattle.cases.specs.Rows.{amounts, classes_of, on_table, new_row, set_amount, with_amount, with_awards, settled, lines}
-use Rattle.cases.specs.Cases.{View, new_case, admit_due, admitted, amend_due, amended, fund_due, funded, press_due, letters_pressed, divide_due, divided, awards_by, draw_due, sheet_of, drawn, is_its_sheet, sheet_due, sign_due, signed, returned}
+use Rattle.cases.specs.Rows.{amounts, classes_of, on_table, new_row, with_amount, with_awards, settled, lines}
+use Rattle.cases.specs.Cases.{View, new_case, admit_due, admitted, amend_due, amended, fund_due, funded, press_due, letters_pressed, divide_due, divided, awards_by, draw_due, sheet_of, drawn, sheet_due, sign_due, signed, returned}
 use Rattle.cases.specs.Ledger.{Event, Admit, Amend, Fund, Press, Divide, Draw, Tally, Sign, Return, Entry, Ledger, empty_ledger, award_under, re_entered, ledger_awards, fed, ledger}
 use Rattle.cases.specs.History.{Step, Past, made, moved}
-use Rattle.cases.proofs.Dues.{by_due, by_sheet_due, none_due}
+use Rattle.cases.proofs.Dues.{by_due, by_sheet_due}
 
 -- the entry of a row
 abbrev pub entry_of : Row → Entry
@@ -72,11 +72,7 @@ listed_is n (row ∷ rows) = ap (λ b. eqb row.number n || b) (listed_is n rows)
 
 entries_amended : (n amount : ℕ) (rows : List Row) → map entry_of (with_amount n amount rows) ≡ re_entered n amount (map entry_of rows)
 entries_amended n amount [] = refl
-entries_amended n amount (row ∷ rows) =
-    elim (eqb row.number n) as (λ b. map entry_of (cond b (set_amount amount row ∷ rows) (row ∷ with_amount n amount rows)) ≡ cond b (record { number = row.number; amount = amount; class = row.class } ∷ map entry_of rows) (entry_of row ∷ re_entered n amount (map entry_of rows))) [
-      | true ↦ refl
-      | false ↦ ap (λ es. entry_of row ∷ es) (entries_amended n amount rows)
-    ]
+entries_amended n amount (row ∷ rows) = let rest = entries_amended n amount rows in grind (arith, nat_tests)
 
 entries_awarded : (new : List ℕ) (rows : List Row) → map entry_of (with_awards new rows) ≡ map entry_of rows
 entries_awarded new [] = refl
@@ -90,16 +86,12 @@ entries_settled (row ∷ rows) = ap (λ es. entry_of row ∷ es) (entries_settle
 -- what rows say under a number ------------------------------------------------------------------------------------------
 
 paid_admitted : (n number amount class : ℕ) (rows : List Row) → found paid n (rows ++ new_row number amount class ∷ []) ≡ found paid n rows
-paid_admitted n number amount class [] = elim (eqb number n) as (λ b. ◌≡◌ {A = ℕ} (cond b 0 0) 0) [ true ↦ refl | false ↦ refl ]
+paid_admitted n number amount class [] = grind (arith, nat_tests)
 paid_admitted n number amount class (row ∷ rows) = ap (λ x. cond (eqb row.number n) row.paid x) (paid_admitted n number amount class rows)
 
 paid_amended : (n number amount : ℕ) (rows : List Row) → found paid n (with_amount number amount rows) ≡ found paid n rows
 paid_amended n number amount [] = refl
-paid_amended n number amount (row ∷ rows) =
-    elim (eqb row.number number) as (λ b. found paid n (cond b (set_amount amount row ∷ rows) (row ∷ with_amount number amount rows)) ≡ found paid n (row ∷ rows)) [
-      | true ↦ refl
-      | false ↦ ap (λ x. cond (eqb row.number n) row.paid x) (paid_amended n number amount rows)
-    ]
+paid_amended n number amount (row ∷ rows) = let rest = paid_amended n number amount rows in grind (arith, nat_tests)
 
 paid_awarded : (n : ℕ) (new : List ℕ) (rows : List Row) → found paid n (with_awards new rows) ≡ found paid n rows
 paid_awarded n new [] = refl
@@ -119,20 +111,16 @@ award_found n (a ∷ new) (row ∷ rows) e = ap (λ x. cond (eqb row.number n) a
 
 module _ (new : Entry) where
   classed_more : (entries : List Entry) → all_classed (map (λ (entry : Entry). entry.class) entries) ≡ true → is_class_number new.class ≡ true → all_classed (map (λ (entry : Entry). entry.class) (entries ++ new ∷ [])) ≡ true
-  classed_more [] h is = and_from (is_class_number new.class) true is refl
-  classed_more (entry ∷ entries) h is =
-      let both = and_parts (is_class_number entry.class) (all_classed (map (λ (e : Entry). e.class) entries)) h in
-      and_from (is_class_number entry.class) (all_classed (map (λ (e : Entry). e.class) (entries ++ new ∷ []))) both.0 (classed_more entries both.1 is)
+  classed_more [] h is = grind (arith, nat_tests)
+  classed_more (entry ∷ entries) h is = let rest = classed_more entries in grind (arith, nat_tests)
 
   total_more : (entries : List Entry) → total (map (λ (entry : Entry). entry.amount) (entries ++ new ∷ [])) ≡ total (map (λ (entry : Entry). entry.amount) entries) + new.amount
   total_more [] = omega arith
   total_more (entry ∷ entries) = omega (arith, total_more entries)
 
   not_listed_more : (n : ℕ) (entries : List Entry) → listed n entries ≡ false → eqb new.number n ≡ false → listed n (entries ++ new ∷ []) ≡ false
-  not_listed_more n [] h other = or_from (eqb new.number n) false other refl
-  not_listed_more n (entry ∷ entries) h other =
-      let both = or_parts (eqb entry.number n) (listed n entries) h in
-      or_from (eqb entry.number n) (listed n (entries ++ new ∷ [])) both.0 (not_listed_more n entries both.1 other)
+  not_listed_more n [] h other = grind (arith, nat_tests)
+  not_listed_more n (entry ∷ entries) h other = let rest = not_listed_more n entries in grind (arith, nat_tests)
 
   distinct_more : (entries : List Entry) → Distinct entries → listed new.number entries ≡ false → Distinct (entries ++ new ∷ [])
   distinct_more [] d h = (refl, tt)
@@ -154,27 +142,15 @@ module _ (new : Entry) where
 module _ (n amount : ℕ) where
   classes_re_entered : (entries : List Entry) → map (λ (entry : Entry). entry.class) (re_entered n amount entries) ≡ map (λ (entry : Entry). entry.class) entries
   classes_re_entered [] = refl
-  classes_re_entered (entry ∷ entries) =
-      elim (eqb entry.number n) as (λ b. map (λ (e : Entry). e.class) (cond b (record { number = entry.number; amount = amount; class = entry.class } ∷ entries) (entry ∷ re_entered n amount entries)) ≡ map (λ (e : Entry). e.class) (entry ∷ entries)) [
-        | true ↦ refl
-        | false ↦ ap (λ xs. entry.class ∷ xs) (classes_re_entered entries)
-      ]
+  classes_re_entered (entry ∷ entries) = let rest = classes_re_entered entries in grind (arith, nat_tests)
 
   length-re_entered : (entries : List Entry) → length (re_entered n amount entries) ≡ length entries
   length-re_entered [] = refl
-  length-re_entered (entry ∷ entries) =
-      elim (eqb entry.number n) as (λ b. length (cond b (record { number = entry.number; amount = amount; class = entry.class } ∷ entries) (entry ∷ re_entered n amount entries)) ≡ suc (length entries)) [
-        | true ↦ refl
-        | false ↦ ap suc (length-re_entered entries)
-      ]
+  length-re_entered (entry ∷ entries) = let rest = length-re_entered entries in grind (arith, nat_tests)
 
   listed_re_entered : (m : ℕ) (entries : List Entry) → listed m (re_entered n amount entries) ≡ listed m entries
   listed_re_entered m [] = refl
-  listed_re_entered m (entry ∷ entries) =
-      elim (eqb entry.number n) as (λ b. listed m (cond b (record { number = entry.number; amount = amount; class = entry.class } ∷ entries) (entry ∷ re_entered n amount entries)) ≡ listed m (entry ∷ entries)) [
-        | true ↦ refl
-        | false ↦ ap (λ b. eqb entry.number m || b) (listed_re_entered m entries)
-      ]
+  listed_re_entered m (entry ∷ entries) = let rest = listed_re_entered m entries in grind (arith, nat_tests)
 
   distinct_re_entered : (entries : List Entry) → Distinct entries → Distinct (re_entered n amount entries)
   distinct_re_entered [] d = tt

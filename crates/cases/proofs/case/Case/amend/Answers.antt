@@ -1,14 +1,14 @@
 use Rattle.std.proofs.Common.{rules}
-use Rattle.cases.proofs.Dues.{due_if_err, kept}
+use Rattle.cases.proofs.Dues.{left_if_refused}
 use Rattle.cases.proofs.Histories.{continues}
 use Rattle.cases.proofs.case.Case.amend.Goals as goal
 
 pub returns-in_err-check_amend-clause-case : goal.returns-in_err-check_amend-clause-case
-returns-in_err-check_amend-clause-case c = kept _ _ _ _ (due_if_err _ _ _ c.in_err-check_amend.ensures.result)
+returns-in_err-check_amend-clause-case c = left_if_refused _ _ _ _ _ c.in_err-check_amend.ensures.result
 
 pub returns-in_err-check_amend-clause-history : goal.returns-in_err-check_amend-clause-history
 returns-in_err-check_amend-clause-history c =
-    continues _ _ _ (search rules, kept _ _ _ _ (due_if_err _ _ _ c.in_err-check_amend.ensures.result))
+    continues _ _ _ (search rules, left_if_refused _ _ _ _ _ c.in_err-check_amend.ensures.result)
 
 pub returns-clause-history : goal.returns-clause-history
 returns-clause-history c = continues _ _ _ (search rules)

@@ -1,11 +1,11 @@
 use Rattle.std.proofs.Common.{◌≡◌, true, length, None, ap, ◌∙◌, arith}
 use lib.ListN.{length-map}
+use Rattle.division.specs.Refusals.{answer}
 use Rattle.normal_form.specs.Piles.{pile_due}
 use Rattle.cases.specs.Rows.{classes_of}
 use Rattle.cases.specs.Cases.{estate_of}
 use Rattle.cases.specs.CaseViews.{view}
 use Rattle.cases.proofs.Divisions.{never_refused}
-use Rattle.cases.proofs.Dues.{due_if_err}
 use Rattle.cases.proofs.case.Case.work_awards.Goals as goal
 
 pub unreachable-requires : goal.unreachable-requires
@@ -17,4 +17,4 @@ unreachable-requires g c =
     ap (λ ks. pile_due true ks c.deref-2.result.now (estate_of v) room) (c.deref.ensures.0 ∙ c.classes-classes.ensures.classes)
     ∙ ap (λ cs. pile_due true (classes_of v.rows) cs (estate_of v) room) (c.deref-2.ensures.0 ∙ c.claims-claims.ensures.claims)
     ∙ never_refused v room (omega (arith, table.few, table.rows.ok.0)) (omega (arith, length-map v.rows (λ row. row.amount), ap length c.claims-claims.ensures.claims, c.truncate.ensures.len, c.from-awards.ensures.1, ap length c.deref_mut.ensures.value, c.len.ensures.value, table.few, table.rows.ok.0)) table.small table.classed c.requires.due in
-    cc (none, due_if_err _ _ _ c.in-Err.ensures.result)
+    cc (c.in-Err.ensures.result, ap (λ o. answer o (tt {0})) none)
