@@ -118,11 +118,6 @@ module _ (classes claims : List ℕ) (estate room : ℕ) where
   letters_pass known all none =
       letters_last known ∙ ap (λ o. or_else o (cond known None (Some (Letter UnknownLetter)))) none ∙ ap (λ k. cond k None (Some (Letter UnknownLetter))) all
 
--- what an answer says of the refusal due
-pub due_if_err : {R X : Type 0} (o : Option R) (x : X) (e : R) → Err e ≡ answer o x → o ≡ Some e
-due_if_err None x e is = let z : ◌≡◌ {A = ℕ} 0 1 = cc in absurd (omega arith)
-due_if_err (Some f) x e is = cc
-
 -- what reading letters as a form says of them
 pub known_if_ok : (read : Option (List Operator)) (p : Parts) → Ok p ≡ known_form read → (is_some read ≡ true) × (p ≡ normal_form (unwrap_or read []))
 known_if_ok None p is = let z : ◌≡◌ {A = ℕ} 0 1 = cc in absurd (omega arith)

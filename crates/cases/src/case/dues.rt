@@ -1,7 +1,6 @@
 // Whether a call of whoever keeps the case is refused, and why; each test in the order of the refusals' numbers.
 ghost use Rattle.std.specs.Prelude.{◌≡◌};
 ghost use Rattle.division.specs.Refusals.{answer};
-ghost use Rattle.operators.specs.Classes.{is_class_number};
 ghost use Rattle.cases.specs.Rows.{is_reserved_number, on_table};
 ghost use Rattle.cases.specs.Cases.{admit_due, amend_due, fund_due, divide_due, draw_due};
 ghost use Rattle.cases.specs.CaseViews.{view};
@@ -10,7 +9,7 @@ use crate::case::{Case, Stage};
 use crate::posting::ESTATE_NUMBER;
 use crate::refusal::CaseRefusal;
 use division::problem::{MOST_CLAIMS, MOST_TOTAL};
-use operators::classes::{FIRST_CLASS, LAST_CLASS};
+use operators::classes::is_class;
 
 // The number that is the owner's.
 pub(crate) const OWNER_NUMBER: u16 = 65_535;
@@ -20,12 +19,6 @@ pub(crate) fn is_reserved(number: u16) -> bool
     ensures result { result ≡ is_reserved_number number }
 {
     number == ESTATE_NUMBER || number == OWNER_NUMBER
-}
-
-fn is_class(class: u8) -> bool
-    ensures result { result ≡ is_class_number class }
-{
-    FIRST_CLASS <= class && class <= LAST_CLASS
 }
 
 impl Case {
