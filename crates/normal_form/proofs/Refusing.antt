@@ -1,11 +1,11 @@
 -- The refusal due for a pile is the smallest that applies, and a pile that is not refused has a sound problem and a
 -- class list of classes from 1 to 8. Assumes nothing.
-use Rattle.std.proofs.Common.{◌≡◌, ℕ, Bool, true, false, cond, not, eqb, ltb, List, [], ◌∷◌, ◌++◌, length, is_some, Some, None, Ok, Err, Option, unwrap_or, sym, refl, ap, ◌∙◌, inl, inr, arith}
+use Rattle.std.proofs.Common.{◌≡◌, ℕ, Bool, true, false, cond, not, eqb, ltb, List, [], ◌∷◌, ◌++◌, length, is_some, Some, None, Ok, Option, unwrap_or, sym, refl, ap, ◌∙◌, inl, inr, arith}
 use Rattle.std.proofs.lemmas.Bool.{ltb-true, lt-ltb, ne_eqb, eqb-false, not-true, not_from_false, cases_Bool}
 use Rattle.std.proofs.lemmas.Bool.Decides.{nat_tests}
 use Rattle.division.specs.Amounts.{total}
 use Rattle.division.specs.Problem.{most_claims, most_total}
-use Rattle.division.specs.Refusals.{Stands, SmallestOf, due, first_due, answer}
+use Rattle.division.specs.Refusals.{Stands, SmallestOf, due, first_due}
 use Rattle.division.specs.declared.refusal.RuleRefusal.TheVariants.{TooManyClaims, AwardListLength, TotalAboveLimit, EstateAboveTotal}
 use Rattle.division.proofs.Smallest.{Honest, smallest_of}
 use Rattle.operators.specs.Operators.{Classed}
