@@ -8,6 +8,7 @@ pub fn less_awards(claims: &[u32], awards: &mut [u32])
     ensures awards { awards.new ≡ less_over claims.now awards.old }
 {
     let count = claims.len().min(awards.len());
+    // By place: after iter_mut().zip(claims) nothing is known of what stands in the awards, so that proof does not close.
     for (place, claim) in claims[..count].iter().enumerate() {
         awards[place] = claim.saturating_sub(awards[place]);
     }

@@ -14,7 +14,8 @@ pub const MOST_CLAIMS: usize = 64;
 // The most that the claims of a problem may add up to.
 pub const MOST_TOTAL: u64 = 2_000_000_000;
 
-// What the claims add up to; 64 claims of 32 bits fit 64 bits with room to spare.
+// What the claims add up to; 64 claims of 32 bits fit 64 bits with room to spare. A sum goes over the claims with their
+// places: a rule of the project.
 fn claims_total(claims: &[u32]) -> u64
     requires { length claims.now ≤ most_claims }
     ensures result { result ≡ total claims.now }
@@ -79,7 +80,7 @@ impl<'a> Problem<'a> {
         self.sum - self.estate
     }
 
-    // What the base shares of the claims add up to, which is no more than the claims do.
+    // What the base shares of the claims add up to, which is no more than the claims do. With the places, as every sum.
     pub(crate) fn base_total<S: Share>(&self, share: &S) -> u32
         ensures result { result ≡ total (map (S.base share.now) self.now.claims.now) }
     {

@@ -8,7 +8,8 @@ pub(crate) mod layers;
 pub mod press;
 pub mod text;
 
-// Where t or m lies in a form: not at all, inside the seniority letter, or outside it.
+// Where t or m lies in a form: not at all, inside the seniority letter, or outside it. Three plain cases, each a pattern of
+// `press`: Some(Side::Inner) for Inner would be no plainer.
 #[derive(Clone, Copy, Debug, PartialEq, Eq)]
 pub enum Place {
     Absent,

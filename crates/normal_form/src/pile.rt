@@ -34,6 +34,7 @@ impl PileRefusal {
     pub fn number(&self) -> u8
         ensures result { result ≡ pile_number self.now }
     {
+        // A match and not the variants' own numbers, since three of them bring a number with them.
         match self {
             PileRefusal::Rule(refusal) => refusal.number(),
             PileRefusal::ClassListLength => 2,

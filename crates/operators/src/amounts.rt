@@ -39,7 +39,7 @@ pub(crate) fn rights_of(problem: &Problem<'_>, loss: u32) -> Amounts
     of_each(problem, |claim| claim.saturating_sub(loss))
 }
 
-// What amounts that came from a sound problem add up to.
+// What amounts that came from a sound problem add up to. With the places, as every sum.
 pub(crate) fn total_of(amounts: &[u32]) -> u32
     requires small { total amounts.now ≤ most_total }
     ensures result { result ≡ total amounts.now }
@@ -57,6 +57,7 @@ pub(crate) fn add_to(amounts: &[u32], awards: &mut [u32])
     requires small { total amounts.now + total awards.old ≤ most_total }
     ensures awards { awards.new ≡ plus amounts.now awards.old }
 {
+    // By place: after iter_mut().zip(amounts) nothing is known of what stands in the awards, so that proof does not close.
     for (place, amount) in amounts.iter().enumerate() {
         awards[place] += *amount;
     }

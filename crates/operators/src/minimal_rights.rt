@@ -13,6 +13,7 @@ pub struct MinimalRights<R> {
     rule: R,
 }
 
+// Each layer has a `new` and an `into_rule` of its own: that each operator is a generic struct is a rule of the project.
 impl<R> MinimalRights<R> {
     pub fn new(rule: R) -> Self
         ensures result { result.rule ≡ rule }

@@ -13,6 +13,7 @@ pub struct Truncation<R> {
     rule: R,
 }
 
+// Each layer has a `new` and an `into_rule` of its own: that each operator is a generic struct is a rule of the project.
 impl<R> Truncation<R> {
     pub fn new(rule: R) -> Self
         ensures result { result.rule ≡ rule }

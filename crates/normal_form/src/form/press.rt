@@ -44,7 +44,8 @@ impl Form {
         }
     }
 
-    // Presses one letter: what it does depends on the form that it meets.
+    // Presses one letter: what it does depends on the form that it meets. Its parts and the letter are matched together and
+    // changed in place, a rule of the project; so t and m, and s and r, have arms of one shape each.
     pub fn press(&mut self, letter: Operator)
         ensures result { parts self.new ≡ pressed (parts self.old) letter }
     {
