@@ -16,10 +16,10 @@ returns c =
     let count = c.count_before.result in
     let counted : count ≡ length (before line_end (drop place file)) =
     c.count_before.ensures.result ∙ ap (λ rest. length (before line_end rest)) (take_rest file place) in
-    let after_is : c.if-end-length.self ≡ min (place + count + 1) (length file) = omega arith in
+    let after_is : c.min-self.result ≡ min (place + count + 1) (length file) = omega arith in
     let size : count ≡ (place + count) - place = omega arith in
     record {
       file = refl;
-      line = subst (λ n. NextLine file place (take n (drop place file)) c.if-end-length.self) size
-          (line_found file place count c.if-end-length.self c.if-self-length.false counted after_is);
+      line = subst (λ n. NextLine file place (take n (drop place file)) c.min-self.result) size
+          (line_found file place count c.min-self.result c.if-self-length.false counted after_is);
     }
