@@ -1,5 +1,5 @@
 -- A text is read as a number exactly if it is the text of that number. Assumes nothing.
-use Rattle.std.proofs.Common.{◌≡◌, ℕ, zero, suc, ◌+◌, ◌-◌, ◌*◌, ◌/◌, ◌%◌, ◌^◌, ◌<◌, ◌≤◌, true, false, cond, not, ◌&&◌, eqb, leb, ◌⊎◌, List, [], ◌∷◌, ◌++◌, length, get_or, drop, Some, None, decimal, Option, sym, refl, ap, ◌∙◌, subst, inl, inr, add-one, arith, rules}
+use Rattle.std.proofs.Common.{◌≡◌, ℕ, zero, suc, ◌+◌, ◌-◌, ◌*◌, ◌/◌, ◌%◌, ◌^◌, ◌<◌, ◌≤◌, true, false, cond, not, ◌&&◌, eqb, leb, List, [], ◌∷◌, ◌++◌, length, get_or, drop, Some, None, decimal, Option, sym, refl, ap, ◌∙◌, subst, add-one, arith, rules}
 use Rattle.std.proofs.lemmas.Bool.{cond_both, cond-true, cond-false, and_from, and_parts, le-leb, leb-true, eq-eqb, ne_eqb, not-true, both_ways, and_right, lt-leb}
 use Rattle.std.proofs.lemmas.List.{at_drop_more, at_drop_all}
 use Rattle.std.proofs.lemmas.Str.Parse.{IsNumeralModel, IsDigitsTest, FoldsDigits, numerals_by_fold}
@@ -117,12 +117,6 @@ read_on limit n rest = cond (all_digits rest && leb (value_after n rest) limit) 
 pub read_start : (text : List ℕ) (limit : ℕ) → 0 < length text → needless_zero text ≡ false → read_on limit 0 text ≡ number_in text limit
 read_start text limit some plain =
     ap (λ v. cond (v && leb (value_after 0 text) limit) (Some (value_after 0 text)) None) (sym (is_number_plain text some plain))
-
-pub read_none : (text : List ℕ) (limit : ℕ) → (length text ≡ 0) ⊎ (needless_zero text ≡ true) → None ≡ number_in text limit
-read_none [] limit h = refl
-read_none (b ∷ bs) limit (inl e) = absurd (omega arith)
-read_none (b ∷ bs) limit (inr e) =
-    ap (λ v. cond ((not v && all_digits (b ∷ bs)) && leb (value_after 0 (b ∷ bs)) limit) (Some (value_after 0 (b ∷ bs))) None) (sym e)
 
 at_place : (limit n : ℕ) (text : List ℕ) (i : ℕ) → i < length text → read_on limit n (drop i text) ≡ read_on limit n (get_or text i 0 ∷ drop (i + 1) text)
 at_place limit n text i within = at_drop_more (read_on limit n) text i 0 within

@@ -1,5 +1,5 @@
-use Rattle.std.proofs.Common.{◌≡◌, ◌+◌, ◌-◌, ◌*◌, ◌<◌, get_or, drop, sym, ap, ◌∙◌, arith, rules}
-use Rattle.casefile.proofs.Numbering.{reads_back, read_on, read_digit, read_other, read_above, read_end}
+use Rattle.std.proofs.Common.{◌+◌, ◌-◌, ◌*◌, ◌<◌, get_or, drop, sym, ◌∙◌, arith, rules}
+use Rattle.casefile.proofs.Numbering.{reads_back, read_digit, read_other, read_above, read_end}
 use Rattle.casefile.proofs.number.read_number.Goals as goal
 
 pub returns-in-empty-2-clause-written : goal.returns-in-empty-2-clause-written
@@ -20,16 +20,6 @@ returns-then-value-from c =
     let answer = sym (read_digit c.args.limit c.loop-byte.value text i c.loop-byte-test.true (sym c.if-not-is_ascii_digit.ensures.value)
     ∙ read_above c.args.limit _ (drop (i + 1) text) above) ∙ c.loop-byte.invariant.0 in
     record { result = answer; written = reads_back text c.args.limit _ (omega arith) answer }
-
-pub loop-byte-preserved : goal.loop-byte-preserved
-loop-byte-preserved c =
-    let text = c.args.text.now in
-    let i = c.loop-byte.byte-index in (
-      ap (λ d. read_on c.args.limit (c.loop-byte.value * 10 + d) (drop (i + 1) text)) c.from.ensures
-          ∙ sym (read_digit c.args.limit c.loop-byte.value text i c.loop-byte-test.true (sym c.if-not-is_ascii_digit.ensures.value))
-          ∙ c.loop-byte.invariant.0,
-      omega arith,
-    )
 
 pub returns : goal.returns
 returns c =
