@@ -21,19 +21,6 @@ spells = search rules
 pub digits_decimal_is : (n : ℕ) → n < 2 ^ 64 → digits n ≡ decimal n
 digits_decimal_is n small = decimal_from_appends last_digits spells (suc n) n small (rw add-one at (length-decimal-le_succ n small))
 
--- a number below ten is one digit
-pub digits_one : (n : ℕ) → n < 10 → digits n ≡ digit n ∷ []
-digits_one n small = digits_decimal_is n (omega arith) ∙ decimal_digit n small
-
--- any other is the digits of its tenth part, and then its last digit
-pub digits_more : (n : ℕ) → 10 ≤ n → n < 2 ^ 64 → digits n ≡ digits (n / 10) ++ digit (n % 10) ∷ []
-digits_more n large small =
-    digits_decimal_is n small ∙ decimal_step n large small ∙ ap (λ ds. ds ++ digit (n % 10) ∷ []) (sym (digits_decimal_is (n / 10) (omega arith)))
-
--- a number below a power of ten has at most so many digits
-pub digits_few : (k n : ℕ) → 0 < k → n < 10 ^ k → n < 2 ^ 64 → length (digits n) ≤ k
-digits_few k n some few small = rw (digits_decimal_is n small) (length-decimal-le k n some few small)
-
 -- the text of a number is digits
 pub digits_all : (n : ℕ) → n < 2 ^ 64 → all_digits (digits n) ≡ true
 digits_all n small = ap all_digits (digits_decimal_is n small) ∙ digits_decimal own n small
@@ -113,10 +100,6 @@ reads_back text limit read small e = subst (ReadsBack text limit) (sym e) (numbe
 -- the number that the digits still to come write behind the number already read, if it is at most the limit
 abbrev pub read_on : ℕ → ℕ → List ℕ → Option ℕ
 read_on limit n rest = cond (all_digits rest && leb (value_after n rest) limit) (Some (value_after n rest)) None
-
-pub read_start : (text : List ℕ) (limit : ℕ) → 0 < length text → needless_zero text ≡ false → read_on limit 0 text ≡ number_in text limit
-read_start text limit some plain =
-    ap (λ v. cond (v && leb (value_after 0 text) limit) (Some (value_after 0 text)) None) (sym (is_number_plain text some plain))
 
 at_place : (limit n : ℕ) (text : List ℕ) (i : ℕ) → i < length text → read_on limit n (drop i text) ≡ read_on limit n (get_or text i 0 ∷ drop (i + 1) text)
 at_place limit n text i within = at_drop_more (read_on limit n) text i 0 within

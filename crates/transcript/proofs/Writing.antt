@@ -1,12 +1,12 @@
 -- How the lines of a text are written. Assumes nothing.
-use Rattle.std.proofs.Common.{◌≡◌, ℕ, suc, ◌+◌, ◌^◌, ◌<◌, ◌≤◌, List, [], ◌∷◌, ◌++◌, map, length, get_or, take, codes, decimal, ℤ, pos, negsuc, neg_ℤ, ◌≤ℤ◌, w64, SFits, sym, ap, ◌∙◌, append_assoc, append-nil, arith}
+use Rattle.std.proofs.Common.{◌≡◌, ℕ, suc, ◌^◌, ◌<◌, ◌≤◌, List, [], ◌∷◌, ◌++◌, map, length, codes, decimal, ℤ, pos, negsuc, neg_ℤ, ◌≤ℤ◌, w64, SFits, sym, ap, ◌∙◌, append_assoc, append-nil, arith}
 use Rattle.std.specs.List.{flat_map}
 use Rattle.std.specs.Borrow.{Bor}
 use Rattle.std.specs.Fmt.{signed_decimal}
 use Rattle.std.proofs.lemmas.Fmt.{length-decimal-le}
 use Rattle.cases.specs.declared.row.Posting.{Posting}
 use Rattle.std.proofs.lemmas.List.Concat.{flat_map-cons}
-use Rattle.std.proofs.lemmas.List.{flat_map_more, map_more}
+use Rattle.std.proofs.lemmas.List.{flat_map_more}
 use Rattle.std.proofs.lemmas.Int.{ints}
 use Rattle.cases.specs.Rows.{most_posted}
 use Rattle.casefile.specs.Marks.{joined_by}
@@ -37,10 +37,6 @@ posted_few (pos n) least most =
 posted_few (negsuc n) least most =
     let few : suc n ≤ most_posted = omega (arith, ints) in
     omega (arith, length-decimal-le 12 (suc n) (omega arith) (omega arith) (omega arith))
-
--- one line more
-pub lines_more : {X : Type 0} (fields : X → List (List ℕ)) (xs : List X) (i : ℕ) (d : X) → i < length xs → as_text (map fields (take i xs)) ++ as_line (fields (get_or xs i d)) ≡ as_text (map fields (take (i + 1) xs))
-lines_more fields xs i d h = flat_map_more as_line [] (map fields (take i xs)) (fields (get_or xs i d)) ∙ ap as_text (sym (map_more fields xs i d h))
 
 -- a first line, and a line behind others
 pub first_line : (start after : List ℕ) (fields : List (List ℕ)) → start ≡ [] → after ≡ start ++ as_line fields → after ≡ as_text (fields ∷ [])

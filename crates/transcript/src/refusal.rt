@@ -96,7 +96,7 @@ impl fmt::Display for RunRefusal {
     ghost output = { λ e. Some (decimal (run_number e)) };
 
     fn fmt<W: fmt::Write>(&self, f: &mut fmt::Formatter<W>) -> fmt::Result {
-        write!(f, "{}", self.number())
+        write!(f, "{}", *self as u8)
     }
 }
 

@@ -21,7 +21,7 @@ impl<'a> Runner<'a> {
         ensures result { Opened number file.now result }
     {
         if file.len() > MOST_FILE {
-            return Err(OpenRefusal::Refused(RunRefusal::FileTooLong));
+            return Err(RunRefusal::FileTooLong.into());
         }
         let hand = CaseInHand::new(number, heap)?;
         Ok(Runner {
