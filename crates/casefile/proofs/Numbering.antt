@@ -1,10 +1,10 @@
 -- A text is read as a number exactly if it is the text of that number. Assumes nothing.
-use Rattle.std.proofs.Common.{◌≡◌, ℕ, zero, suc, ◌+◌, ◌-◌, ◌*◌, ◌/◌, ◌%◌, ◌^◌, ◌<◌, ◌≤◌, true, false, cond, not, ◌&&◌, eqb, leb, List, [], ◌∷◌, ◌++◌, length, get_or, drop, Some, None, decimal, Option, sym, refl, ap, ◌∙◌, subst, add-one, arith, rules}
+use Rattle.std.proofs.Common.{◌≡◌, ℕ, zero, suc, ◌+◌, ◌-◌, ◌*◌, ◌^◌, ◌<◌, ◌≤◌, true, false, cond, not, ◌&&◌, eqb, leb, List, [], ◌∷◌, length, get_or, drop, Some, None, decimal, Option, sym, refl, ap, ◌∙◌, subst, add-one, arith, rules}
 use Rattle.std.proofs.lemmas.Bool.{cond_both, cond-true, cond-false, and_from, and_parts, le-leb, leb-true, eq-eqb, ne_eqb, not-true, both_ways, and_right, lt-leb}
 use Rattle.std.proofs.lemmas.List.{at_drop_more, at_drop_all}
 use Rattle.std.proofs.lemmas.Str.Parse.{IsNumeralModel, IsDigitsTest, FoldsDigits, numerals_by_fold}
-use Rattle.std.proofs.lemmas.Fmt.{AppendsLastDigit, decimal_from_appends, length-decimal-le_succ, decimal-digits_value, digits_value-decimal, digits_decimal, first_decimal, decimal_nonempty, decimal_digit, decimal_step, length-decimal-le}
-use Rattle.casefile.specs.Decimal.{digit, last_digits, digits, is_decimal_digit, all_digits, needless_zero, is_number, value_after, number_in, ReadsBack, NumberLaws}
+use Rattle.std.proofs.lemmas.Fmt.{AppendsLastDigit, decimal_from_appends, length-decimal-le_succ, decimal-digits_value, digits_value-decimal, digits_decimal, first_decimal, decimal_nonempty, decimal_digit}
+use Rattle.casefile.specs.Decimal.{last_digits, digits, is_decimal_digit, all_digits, needless_zero, is_number, value_after, number_in, ReadsBack, NumberLaws}
 
 tells_all_digits : IsDigitsTest (λ ds. all_digits ds ≡ true)
 tells_all_digits = search rules
@@ -52,12 +52,6 @@ is_number_plain : (text : List ℕ) → 0 < length text → needless_zero text �
 is_number_plain [] some plain = absurd (omega arith)
 is_number_plain (b ∷ bs) some plain = ap (λ v. not v && all_digits (b ∷ bs)) plain
 
-some_same : (m n : ℕ) → ◌≡◌ {A = Option ℕ} (Some m) (Some n) → m ≡ n
-some_same m n e = cc
-
-none_some : (n : ℕ) → ◌≡◌ {A = Option ℕ} None (Some n) → ⊥
-none_some n e = let z : ◌≡◌ {A = ℕ} 0 1 = cc in omega arith
-
 only_written : (text : List ℕ) (limit : ℕ) → limit < 2 ^ 64 → (n : ℕ) → number_in text limit ≡ Some n → (text ≡ digits n) × (n ≤ limit)
 only_written text limit small n =
     let value = value_after 0 text in
@@ -65,11 +59,11 @@ only_written text limit small n =
     (λ e read.
     let both = and_parts (is_number text) (leb value limit) e in
     let p = parts_of text both.0 in
-    let same : value ≡ n = some_same value n read in
+    let same : value ≡ n = cc in
     let within : value ≤ limit = leb-true value limit both.1 in
     let written : text ≡ digits value = sym (digits_decimal_is value (omega arith) ∙ decimal-digits_value own text p.all p.some (alone text p.plain p.some) (omega arith)) in
     (written ∙ ap digits same, omega arith))
-    (λ e read. absurd (none_some n read))
+    (λ e read. cc)
 
 first_alone : (n : ℕ) → n < 2 ^ 64 → get_or (decimal n) 0 0 ≡ 48 → length (decimal n) ≡ 1
 first_alone zero small first = ap length (decimal_digit 0 (omega arith))

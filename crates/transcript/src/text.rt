@@ -43,10 +43,7 @@ impl Text {
         requires { length self.old + length bytes.now ≤ least_buffer }
         ensures { self.new ≡ self.old ++ bytes.now }
     {
-        match self.bytes.try_extend_from_slice(bytes) {
-            Ok(()) => {}
-            Err(_) => unreachable!(),
-        }
+        self.bytes.try_extend_from_slice(bytes).unwrap();
     }
 
     // A line: a word, and a comma before each field behind it.
