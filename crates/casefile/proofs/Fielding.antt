@@ -1,12 +1,12 @@
 -- The fields of a line, one after the other, and what they keep of it. Assumes nothing.
-use Rattle.std.proofs.Common.{◌≡◌, ℕ, suc, ◌+◌, ◌-◌, ◌<◌, ◌≤◌, true, false, cond, eqb, List, [], ◌∷◌, ◌++◌, length, take, drop, Err, sym, refl, ap, ◌∙◌, arith}
+use Rattle.std.proofs.Common.{◌≡◌, ℕ, suc, ◌+◌, ◌<◌, ◌≤◌, true, false, cond, eqb, List, [], ◌∷◌, ◌++◌, length, take, drop, Some, None, Option, sym, refl, ap, ◌∙◌, ⊎_elim, arith}
+use Rattle.std.specs.Borrow.{Bor}
+use Rattle.std.specs.Slice.{IsGetRangeResult}
 use Rattle.std.specs.List.{AllByRecursion}
 use Rattle.std.proofs.lemmas.Bool.{cond_both, cond-false, eqb-true, eqb-false, ne_eqb}
 use Rattle.std.proofs.lemmas.List.{take_rest}
 use Rattle.casefile.specs.Marks.{before, behind, in_front, joined_by, Without}
-use Rattle.casefile.specs.declared.refusal.LineRefusal.TheVariants.{UnknownForm}
-use Rattle.casefile.specs.Fields.{comma, fields, FieldLaws}
-use Rattle.casefile.specs.LineKinds.{kind_by_fields}
+use Rattle.casefile.specs.Fields.{comma, fields, fields_left, FieldLaws}
 use Rattle.casefile.proofs.Parting.{before_front, behind_rest, joined_in_front, joined_empty, without_in_front}
 
 -- where there is a comma, the first field stands before it, and the others behind it
@@ -23,21 +23,16 @@ fields_last (b ∷ bs) h =
     elim (eqb b comma) as (λ v. suc (length bs) ≤ length (cond v [] (b ∷ before comma bs)) → cond v ([] ∷ fields bs) (in_front b (fields bs)) ≡ cond v [] (b ∷ before comma bs) ∷ [])
     [ true ↦ (λ k. absurd (omega arith)) | false ↦ (λ k. ap (in_front b) (fields_last bs (omega arith))) ] h
 
--- what is cut off at the first comma
-pub cut_more : (text : List ℕ) (count : ℕ) → count ≡ length (before comma text) → count < length text → fields text ≡ take (count - 0) text ∷ fields (take (length text - (count + 1)) (drop (count + 1) text))
-cut_more text count counted more =
-    let same : count - 0 ≡ length (before comma text) = omega arith in
-    let first : take (count - 0) text ≡ before comma text = ap (λ n. take n text) same ∙ before_front comma text in
-    let rest : take (length text - (count + 1)) (drop (count + 1) text) ≡ behind comma text =
-    take_rest text (count + 1) ∙ ap (λ n. drop (n + 1) text) counted ∙ behind_rest comma text in
-    fields_more text (omega arith) ∙ ap (λ xs. xs ∷ fields (behind comma text)) (sym first) ∙ ap (λ xs. take (count - 0) text ∷ fields xs) (sym rest)
-
--- the only field
-pub cut_last : (text : List ℕ) (count : ℕ) → count ≡ length (before comma text) → length text ≤ count → fields text ≡ take (count - 0) text ∷ []
-cut_last text count counted last =
-    let same : count - 0 ≡ length (before comma text) = omega arith in
-    let first : take (count - 0) text ≡ before comma text = ap (λ n. take n text) same ∙ before_front comma text in
-    fields_last text (omega arith) ∙ ap (λ xs. xs ∷ []) (sym first)
+-- the first field is cut off at the first comma, and the others are those of the text behind it, if there is one
+pub cut_off : (text : List ℕ) (count : ℕ) (rest : Option (Bor (List ℕ))) → count ≡ length (before comma text) → IsGetRangeResult text (count + 1) (length text) rest → fields text ≡ take count text ∷ fields_left rest
+cut_off text count None counted got =
+    let last : length text ≤ count = ⊎_elim (λ none. omega arith) (λ none. omega arith) got.0 in
+    fields_last text (omega arith) ∙ ap (λ xs. xs ∷ []) (sym (ap (λ n. take n text) counted ∙ before_front comma text))
+cut_off text count (Some rest) counted got =
+    let part = got.0 in
+    let first : take count text ≡ before comma text = ap (λ n. take n text) counted ∙ before_front comma text in
+    let others : rest.now ≡ behind comma text = part.2 ∙ take_rest text (count + 1) ∙ ap (λ n. drop (n + 1) text) counted ∙ behind_rest comma text in
+    fields_more text (omega arith) ∙ ap (λ xs. xs ∷ fields (behind comma text)) (sym first) ∙ ap (λ xs. take count text ∷ fields xs) (sym others)
 
 some_in_front : (b : ℕ) (texts : List (List ℕ)) → 0 < length (in_front b texts)
 some_in_front b [] = omega arith
@@ -66,14 +61,6 @@ fields_without (b ∷ bs) =
 
 pub field_laws : FieldLaws
 field_laws = record { whole = fields_whole; without_commas = fields_without }
-
-more_than_four : (word first second third : List ℕ) (others : List (List ℕ)) → 0 < length others → kind_by_fields (word ∷ first ∷ second ∷ third ∷ others) ≡ Err UnknownForm
-more_than_four word first second third [] some = absurd (omega arith)
-more_than_four word first second third (fourth ∷ more) some = refl
-
--- a text behind the fourth field is a field too many
-pub too_many : (word first second third rest : List ℕ) → kind_by_fields (word ∷ first ∷ second ∷ third ∷ fields rest) ≡ Err UnknownForm
-too_many word first second third rest = more_than_four word first second third (fields rest) (some_field rest)
 
 field_front : (text rest : List ℕ) → AllByRecursion (λ b. b ≡ comma → ⊥) text → fields (text ++ comma ∷ rest) ≡ text ∷ fields rest
 field_front [] rest none = refl

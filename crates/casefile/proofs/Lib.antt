@@ -1,4 +1,5 @@
 pub mod Parting
+pub mod Wording
 pub mod Walking
 pub mod Numbering
 pub mod Fielding

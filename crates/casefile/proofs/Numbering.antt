@@ -1,10 +1,10 @@
 -- A text is read as a number exactly if it is the text of that number. Assumes nothing.
-use Rattle.std.proofs.Common.{◌≡◌, ℕ, zero, suc, ◌+◌, ◌-◌, ◌*◌, ◌/◌, ◌%◌, ◌^◌, ◌<◌, ◌≤◌, true, false, cond, not, ◌&&◌, eqb, leb, ◌⊎◌, List, [], ◌∷◌, ◌++◌, length, get_or, drop, Some, None, decimal, Option, sym, refl, ap, ◌∙◌, subst, inl, inr, add-one, arith, rules}
+use Rattle.std.proofs.Common.{◌≡◌, ℕ, zero, suc, ◌+◌, ◌-◌, ◌*◌, ◌^◌, ◌<◌, ◌≤◌, true, false, cond, not, ◌&&◌, eqb, leb, List, [], ◌∷◌, length, get_or, drop, Some, None, decimal, Option, sym, refl, ap, ◌∙◌, subst, add-one, arith, rules}
 use Rattle.std.proofs.lemmas.Bool.{cond_both, cond-true, cond-false, and_from, and_parts, le-leb, leb-true, eq-eqb, ne_eqb, not-true, both_ways, and_right, lt-leb}
 use Rattle.std.proofs.lemmas.List.{at_drop_more, at_drop_all}
 use Rattle.std.proofs.lemmas.Str.Parse.{IsNumeralModel, IsDigitsTest, FoldsDigits, numerals_by_fold}
-use Rattle.std.proofs.lemmas.Fmt.{AppendsLastDigit, decimal_from_appends, length-decimal-le_succ, decimal-digits_value, digits_value-decimal, digits_decimal, first_decimal, decimal_nonempty, decimal_digit, decimal_step, length-decimal-le}
-use Rattle.casefile.specs.Decimal.{digit, last_digits, digits, is_decimal_digit, all_digits, needless_zero, is_number, value_after, number_in, ReadsBack, NumberLaws}
+use Rattle.std.proofs.lemmas.Fmt.{AppendsLastDigit, decimal_from_appends, length-decimal-le_succ, decimal-digits_value, digits_value-decimal, digits_decimal, first_decimal, decimal_nonempty, decimal_digit}
+use Rattle.casefile.specs.Decimal.{last_digits, digits, is_decimal_digit, all_digits, needless_zero, is_number, value_after, number_in, ReadsBack, NumberLaws}
 
 tells_all_digits : IsDigitsTest (λ ds. all_digits ds ≡ true)
 tells_all_digits = search rules
@@ -20,19 +20,6 @@ spells = search rules
 
 pub digits_decimal_is : (n : ℕ) → n < 2 ^ 64 → digits n ≡ decimal n
 digits_decimal_is n small = decimal_from_appends last_digits spells (suc n) n small (rw add-one at (length-decimal-le_succ n small))
-
--- a number below ten is one digit
-pub digits_one : (n : ℕ) → n < 10 → digits n ≡ digit n ∷ []
-digits_one n small = digits_decimal_is n (omega arith) ∙ decimal_digit n small
-
--- any other is the digits of its tenth part, and then its last digit
-pub digits_more : (n : ℕ) → 10 ≤ n → n < 2 ^ 64 → digits n ≡ digits (n / 10) ++ digit (n % 10) ∷ []
-digits_more n large small =
-    digits_decimal_is n small ∙ decimal_step n large small ∙ ap (λ ds. ds ++ digit (n % 10) ∷ []) (sym (digits_decimal_is (n / 10) (omega arith)))
-
--- a number below a power of ten has at most so many digits
-pub digits_few : (k n : ℕ) → 0 < k → n < 10 ^ k → n < 2 ^ 64 → length (digits n) ≤ k
-digits_few k n some few small = rw (digits_decimal_is n small) (length-decimal-le k n some few small)
 
 -- the text of a number is digits
 pub digits_all : (n : ℕ) → n < 2 ^ 64 → all_digits (digits n) ≡ true
@@ -65,12 +52,6 @@ is_number_plain : (text : List ℕ) → 0 < length text → needless_zero text �
 is_number_plain [] some plain = absurd (omega arith)
 is_number_plain (b ∷ bs) some plain = ap (λ v. not v && all_digits (b ∷ bs)) plain
 
-some_same : (m n : ℕ) → ◌≡◌ {A = Option ℕ} (Some m) (Some n) → m ≡ n
-some_same m n e = cc
-
-none_some : (n : ℕ) → ◌≡◌ {A = Option ℕ} None (Some n) → ⊥
-none_some n e = let z : ◌≡◌ {A = ℕ} 0 1 = cc in omega arith
-
 only_written : (text : List ℕ) (limit : ℕ) → limit < 2 ^ 64 → (n : ℕ) → number_in text limit ≡ Some n → (text ≡ digits n) × (n ≤ limit)
 only_written text limit small n =
     let value = value_after 0 text in
@@ -78,11 +59,11 @@ only_written text limit small n =
     (λ e read.
     let both = and_parts (is_number text) (leb value limit) e in
     let p = parts_of text both.0 in
-    let same : value ≡ n = some_same value n read in
+    let same : value ≡ n = cc in
     let within : value ≤ limit = leb-true value limit both.1 in
     let written : text ≡ digits value = sym (digits_decimal_is value (omega arith) ∙ decimal-digits_value own text p.all p.some (alone text p.plain p.some) (omega arith)) in
     (written ∙ ap digits same, omega arith))
-    (λ e read. absurd (none_some n read))
+    (λ e read. cc)
 
 first_alone : (n : ℕ) → n < 2 ^ 64 → get_or (decimal n) 0 0 ≡ 48 → length (decimal n) ≡ 1
 first_alone zero small first = ap length (decimal_digit 0 (omega arith))
@@ -113,16 +94,6 @@ reads_back text limit read small e = subst (ReadsBack text limit) (sym e) (numbe
 -- the number that the digits still to come write behind the number already read, if it is at most the limit
 abbrev pub read_on : ℕ → ℕ → List ℕ → Option ℕ
 read_on limit n rest = cond (all_digits rest && leb (value_after n rest) limit) (Some (value_after n rest)) None
-
-pub read_start : (text : List ℕ) (limit : ℕ) → 0 < length text → needless_zero text ≡ false → read_on limit 0 text ≡ number_in text limit
-read_start text limit some plain =
-    ap (λ v. cond (v && leb (value_after 0 text) limit) (Some (value_after 0 text)) None) (sym (is_number_plain text some plain))
-
-pub read_none : (text : List ℕ) (limit : ℕ) → (length text ≡ 0) ⊎ (needless_zero text ≡ true) → None ≡ number_in text limit
-read_none [] limit h = refl
-read_none (b ∷ bs) limit (inl e) = absurd (omega arith)
-read_none (b ∷ bs) limit (inr e) =
-    ap (λ v. cond ((not v && all_digits (b ∷ bs)) && leb (value_after 0 (b ∷ bs)) limit) (Some (value_after 0 (b ∷ bs))) None) (sym e)
 
 at_place : (limit n : ℕ) (text : List ℕ) (i : ℕ) → i < length text → read_on limit n (drop i text) ≡ read_on limit n (get_or text i 0 ∷ drop (i + 1) text)
 at_place limit n text i within = at_drop_more (read_on limit n) text i 0 within

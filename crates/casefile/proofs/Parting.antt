@@ -1,7 +1,8 @@
 -- What holds of bytes parted by a mark. Assumes nothing.
-use Rattle.std.proofs.Common.{◌≡◌, ℕ, suc, ◌+◌, ◌<◌, ◌≤◌, true, false, cond, eqb, List, [], ◌∷◌, length, get_or, take, drop, refl, ap, ◌∙◌, add-one, arith}
-use Rattle.std.proofs.lemmas.Bool.{cond_both, cond-true, cond-false, eq-eqb, ne_eqb}
-use Rattle.std.proofs.lemmas.List.{at_drop_more, at_drop_all}
+use Rattle.std.proofs.Common.{◌≡◌, ℕ, suc, ◌+◌, ◌<◌, ◌≤◌, Bool, true, false, cond, eqb, ltb, List, [], ◌∷◌, length, take, drop, Some, None, unwrap_or, sym, refl, ap, add-one, arith, rules}
+use Rattle.std.specs.List.{position, position_or_len}
+use Rattle.std.proofs.lemmas.Bool.{cond_both, ltb-false}
+use Rattle.std.proofs.lemmas.List.Recursion.{is_position_or_len}
 use Rattle.casefile.specs.Marks.{before, behind, in_front, joined_by, Without}
 
 -- no more bytes stand before the mark than there are
@@ -37,21 +38,15 @@ behind_none mark (b ∷ bs) h =
     elim (eqb b mark) as (λ v. suc (length bs) ≤ length (cond v [] (b ∷ before mark bs)) → cond v bs (behind mark bs) ≡ [])
     [ true ↦ (λ k. absurd (omega arith)) | false ↦ (λ k. behind_none mark bs (omega arith)) ] h
 
--- the mark found at a place
-pub before_found : (mark : ℕ) (bs : List ℕ) (i : ℕ) → i < length bs → get_or bs i 0 ≡ mark → length (before mark (drop i bs)) ≡ 0
-before_found mark bs i within found =
-    at_drop_more (λ xs. length (before mark xs)) bs i 0 within
-    ∙ ap length (cond-true (eqb (get_or bs i 0) mark) [] (get_or bs i 0 ∷ before mark (drop (i + 1) bs)) (eq-eqb _ _ found))
-
--- another byte at a place
-pub before_passed : (mark : ℕ) (bs : List ℕ) (i : ℕ) → i < length bs → (get_or bs i 0 ≡ mark → ⊥) → length (before mark (drop i bs)) ≡ suc (length (before mark (drop (i + 1) bs)))
-before_passed mark bs i within other =
-    at_drop_more (λ xs. length (before mark xs)) bs i 0 within
-    ∙ ap length (cond-false (eqb (get_or bs i 0) mark) [] (get_or bs i 0 ∷ before mark (drop (i + 1) bs)) (ne_eqb _ _ other))
-
--- no byte is left
-pub before_all : (mark : ℕ) (bs : List ℕ) (i : ℕ) → length bs ≤ i → length (before mark (drop i bs)) ≡ 0
-before_all mark bs i h = at_drop_all (λ xs. length (before mark xs)) bs i h
+-- the place of the first mark, or the length where there is none
+pub before_position : (mark : ℕ) (bs : List ℕ) → unwrap_or (position (λ b. eqb b mark) bs) (length bs) ≡ length (before mark bs)
+before_position mark bs =
+    let test : ℕ → Bool = λ b. eqb b mark in
+    let at = position_or_len test bs in
+    let same : length (before mark bs) ≡ at = is_position_or_len (λ xs. length (before mark xs)) test refl (λ x xs. search rules) bs in
+    cond_both (ltb at (length bs)) (Some at) None (λ o. unwrap_or o (length bs) ≡ length (before mark bs))
+    (λ _. sym same)
+    (λ t. omega (arith, before_within mark bs, ltb-false at (length bs) t))
 
 -- a byte in front of the first text stands in front of the joined texts
 pub joined_in_front : (mark b : ℕ) (texts : List (List ℕ)) → joined_by mark (in_front b texts) ≡ b ∷ joined_by mark texts

@@ -9,23 +9,17 @@ use Rattle.casefile.specs.Fields.{fields}
 use Rattle.casefile.specs.Decimal.{number_in}
 use Rattle.casefile.specs.LineRefusals.{and_then, line_number}
 use Rattle.casefile.specs.LineKinds.{most_line, Kind, claim_line, amend_line, fund_line, press_line, divide_line, draw_line, sign_line, return_line, compare_line, remark_line, is_remark, kind_by_fields}
-use Rattle.casefile.specs.Calls.{Asked, asks_claim, asks_amend, asks_fund, asks_press, asks_divide, asks_draw, asks_sign, asks_return, asks_compare, asks_nothing, most_claimant, most_class, most_amount, needed, limited, rule_named, call_of, reading}
+use Rattle.casefile.specs.Calls.{most_claimant, most_class, most_amount, needed, limited, rule_named, call_of, reading}
 use Rattle.casefile.specs.Refused.{FieldsRefused, Applies, RefusalLaws}
 
 module _ {X : Type 0} where
-  err_same : (d e : LineRefusal) → ◌≡◌ {A = Result X LineRefusal} (Err d) (Err e) → d ≡ e
-  err_same d e h = cc
-
-  ok_err : (x : X) (e : LineRefusal) → ◌≡◌ {A = Result X LineRefusal} (Ok x) (Err e) → ⊥
-  ok_err x e h = let z : ◌≡◌ {A = ℕ} 0 1 = cc in omega arith
-
   -- one row of a table whose other rows refuse only so
   row : (only d : LineRefusal) (test : Bool) (x : X) (others : Result X LineRefusal) → (others ≡ Err d → d ≡ only) → cond test (Ok x) others ≡ Err d → d ≡ only
   row only d test x others rest =
-      cond_both test (Ok x) others (λ r. r ≡ Err d → d ≡ only) (λ _ h. absurd (ok_err x d h)) (λ _ h. rest h)
+      cond_both test (Ok x) others (λ r. r ≡ Err d → d ≡ only) (λ _ h. cc) (λ _ h. rest h)
 
   last_row : (only d : LineRefusal) → ◌≡◌ {A = Result X LineRefusal} (Err only) (Err d) → d ≡ only
-  last_row only d h = sym (err_same only d h)
+  last_row only d h = cc
 
 -- a line without a kind is of unknown form
 form_refused : (fs : List (List ℕ)) (d : LineRefusal) → kind_by_fields fs ≡ Err d → d ≡ UnknownForm
@@ -54,12 +48,12 @@ rule_refused name d h =
 
 needed_refused : (o : Option ℕ) (d : LineRefusal) → needed o ≡ Err d → d ≡ BadNumber
 needed_refused None d h = last_row BadNumber d h
-needed_refused (Some n) d h = absurd (ok_err n d h)
+needed_refused (Some n) d h = cc
 
 -- two steps that refuse only so refuse only so
 then_refused : {X Y : Type 0} (only d : LineRefusal) (r : Result X LineRefusal) (next : X → Result Y LineRefusal) → (r ≡ Err d → d ≡ only) → ((x : X) → next x ≡ Err d → d ≡ only) → and_then r next ≡ Err d → d ≡ only
 then_refused only d (Ok x) next first second h = second x h
-then_refused {X} {Y} only d (Err e) next first second h = first (ap Err (err_same {X = Y} e d h))
+then_refused only d (Err e) next first second h = first cc
 
 -- fields are refused for a number or a rule
 fields_refused : (k : Kind) (d : LineRefusal) → call_of k ≡ Err d → (d ≡ BadNumber) ⊎ (d ≡ UnknownRule)
@@ -67,22 +61,22 @@ fields_refused (claim_line number amount class) d h =
     inl (then_refused BadNumber d (limited number most_claimant) _ (needed_refused (number_in number most_claimant) d)
     (λ n. then_refused BadNumber d (limited amount most_amount) _ (needed_refused (number_in amount most_amount) d)
     (λ a. then_refused BadNumber d (limited class most_class) _ (needed_refused (number_in class most_class) d)
-    (λ c e. absurd (ok_err (asks_claim n a c) d e)))) h)
+    (λ c e. cc))) h)
 fields_refused (amend_line number amount) d h =
     inl (then_refused BadNumber d (limited number most_claimant) _ (needed_refused (number_in number most_claimant) d)
     (λ n. then_refused BadNumber d (limited amount most_amount) _ (needed_refused (number_in amount most_amount) d)
-    (λ a e. absurd (ok_err (asks_amend n a) d e))) h)
+    (λ a e. cc)) h)
 fields_refused (fund_line amount) d h =
     inl (then_refused BadNumber d (limited amount most_amount) _ (needed_refused (number_in amount most_amount) d)
-    (λ a e. absurd (ok_err (asks_fund a) d e)) h)
-fields_refused (press_line letters) d h = absurd (ok_err (asks_press letters) d h)
+    (λ a e. cc) h)
+fields_refused (press_line letters) d h = cc
 fields_refused (divide_line rule) d h =
-    inr (then_refused UnknownRule d (rule_named rule) _ (rule_refused rule d) (λ r e. absurd (ok_err (asks_divide r) d e)) h)
-fields_refused draw_line d h = absurd (ok_err asks_draw d h)
-fields_refused sign_line d h = absurd (ok_err asks_sign d h)
-fields_refused return_line d h = absurd (ok_err asks_return d h)
-fields_refused (compare_line left right) d h = absurd (ok_err (asks_compare left right) d h)
-fields_refused remark_line d h = absurd (ok_err asks_nothing d h)
+    inr (then_refused UnknownRule d (rule_named rule) _ (rule_refused rule d) (λ r e. cc) h)
+fields_refused draw_line d h = cc
+fields_refused sign_line d h = cc
+fields_refused return_line d h = cc
+fields_refused (compare_line left right) d h = cc
+fields_refused remark_line d h = cc
 
 -- what is known of a line that was refused
 record Known (line : List ℕ) (e : LineRefusal) : Type 0 where
@@ -92,13 +86,14 @@ record Known (line : List ℕ) (e : LineRefusal) : Type 0 where
 both_kinds : (line : List ℕ) (k : Kind) (d e : LineRefusal) → kind_by_fields (fields line) ≡ Ok k → call_of k ≡ Err e → FieldsRefused line d → d ≡ e
 both_kinds line k d e has refused other =
     let same : other.0 ≡ k = (let left = other.1 in cc) in
-    err_same {X = Asked} d e (sym other.2 ∙ ap call_of same ∙ refused)
+    let both = sym other.2 ∙ ap call_of same ∙ refused in
+    cc
 
 by_kind : (line : List ℕ) (e : LineRefusal) (r : Result Kind LineRefusal) → length line ≤ most_line → is_remark line ≡ false → kind_by_fields (fields line) ≡ r → and_then r call_of ≡ Err e → Known line e
 by_kind line e (Err d) short plain has h =
-    let unknown : e ≡ UnknownForm = form_refused (fields line) e (has ∙ ap Err (err_same {X = Asked} d e h)) in
+    let unknown : e ≡ UnknownForm = form_refused (fields line) e cc in
     subst (Known line) (sym unknown)
-    record { applies = (plain, (λ k is. absurd (ok_err k d (sym is ∙ has)))); smallest = above }
+    record { applies = (plain, (λ k is. cc)); smallest = above }
   where
     above : (other : LineRefusal) → Applies line other → 17 ≤ line_number other
     above TooLong a = absurd (omega arith)
@@ -126,9 +121,9 @@ by_kind line e (Ok k) short plain has h =
 known : (line : List ℕ) (e : LineRefusal) → reading line ≡ Err e → Known line e
 known line e =
     cond_both (ltb most_line (length line)) (Err TooLong) (cond (is_remark line) (Ok remark_line) (kind_by_fields (fields line))) (λ r. and_then r call_of ≡ Err e → Known line e)
-    (λ long h. subst (Known line) (err_same {X = Asked} TooLong e h) record { applies = ltb-true most_line (length line) long; smallest = λ other _. least other })
+    (λ long h. let same : TooLong ≡ e = cc in subst (Known line) same record { applies = ltb-true most_line (length line) long; smallest = λ other _. least other })
     (λ short. cond_both (is_remark line) (Ok remark_line) (kind_by_fields (fields line)) (λ r. and_then r call_of ≡ Err e → Known line e)
-    (λ _ h. absurd (ok_err asks_nothing e h))
+    (λ _ h. cc)
     (λ plain h. by_kind line e (kind_by_fields (fields line)) (ltb-false most_line (length line) short) plain refl h))
   where
     least : (other : LineRefusal) → 16 ≤ line_number other

@@ -6,7 +6,7 @@ use Rattle.std.proofs.lemmas.Slice.Eq.{bytes_eq-Decides}
 use Rattle.casefile.specs.declared.call.RuleName.{RuleName}
 use Rattle.casefile.specs.declared.call.RuleName.TheVariants.{Priority, Equal, Proportion, Talmud}
 use Rattle.casefile.specs.declared.refusal.LineRefusal.{LineRefusal}
-use Rattle.casefile.specs.declared.refusal.LineRefusal.TheVariants.{TooLong, UnknownForm, BadNumber, UnknownRule}
+use Rattle.casefile.specs.declared.refusal.LineRefusal.TheVariants.{TooLong, UnknownForm, UnknownRule}
 use Rattle.casefile.specs.Marks.{joined_by, Without}
 use Rattle.casefile.specs.Fields.{comma, fields}
 use Rattle.casefile.specs.Decimal.{digits, is_decimal_digit, all_digits, number_in}
@@ -17,17 +17,10 @@ use Rattle.casefile.specs.Written.{name_of, fields_for, line_for, NoComma, Askab
 use Rattle.casefile.proofs.Fielding.{some_field, field_laws, fields_joined}
 use Rattle.casefile.proofs.Numbering.{number_laws, digits_all}
 
-module _ {X : Type 0} where
-  ok_same : (x y : X) → ◌≡◌ {A = Result X LineRefusal} (Ok x) (Ok y) → x ≡ y
-  ok_same x y e = cc
-
-  err_ok : (d : LineRefusal) (y : X) → ◌≡◌ {A = Result X LineRefusal} (Err d) (Ok y) → ⊥
-  err_ok d y e = let z : ◌≡◌ {A = ℕ} 0 1 = cc in omega arith
-
 -- two steps that were accepted, taken apart
 both_accepted : {X Y : Type 0} (r : Result X LineRefusal) (next : X → Result Y LineRefusal) (y : Y) → and_then r next ≡ Ok y → (x : X) × (r ≡ Ok x) × (next x ≡ Ok y)
 both_accepted (Ok x) next y e = (x, refl, e)
-both_accepted (Err d) next y e = absurd (err_ok d y e)
+both_accepted (Err d) next y e = cc
 
 -- the fields of a line of a known kind
 abbrev kind_fields : Kind → List (List ℕ)
@@ -46,31 +39,31 @@ kind_fields remark_line = []
 row : (word name : List ℕ) (made k : Kind) (others : Result Kind LineRefusal) (fs : List (List ℕ)) → (word ≡ name → fs ≡ kind_fields made) → (others ≡ Ok k → fs ≡ kind_fields k) → cond (bytes_eq word name) (Ok made) others ≡ Ok k → fs ≡ kind_fields k
 row word name made k others fs known rest =
     cond_both (bytes_eq word name) (Ok made) others (λ r. r ≡ Ok k → fs ≡ kind_fields k)
-    (λ t e. known ((bytes_eq-Decides word name).0 t) ∙ ap kind_fields (ok_same made k e))
+    (λ t e. known ((bytes_eq-Decides word name).0 t) ∙ ap kind_fields (cc))
     (λ _ e. rest e)
 
 -- a line of a known kind has the fields of its kind
 kind_has : (fs : List (List ℕ)) (k : Kind) → kind_by_fields fs ≡ Ok k → fs ≡ kind_fields k
-kind_has [] k e = absurd (err_ok UnknownForm k e)
+kind_has [] k e = cc
 kind_has (word ∷ []) k e =
     row word (codes "draw") draw_line k _ (word ∷ []) (ap (λ w. w ∷ []))
     (row word (codes "sign") sign_line k _ (word ∷ []) (ap (λ w. w ∷ []))
-    (row word (codes "return") return_line k (Err UnknownForm) (word ∷ []) (ap (λ w. w ∷ [])) (λ d. absurd (err_ok UnknownForm k d)))) e
+    (row word (codes "return") return_line k (Err UnknownForm) (word ∷ []) (ap (λ w. w ∷ [])) (λ d. cc))) e
 kind_has (word ∷ first ∷ []) k e =
     row word (codes "fund") (fund_line first) k _ (word ∷ first ∷ []) (ap (λ w. w ∷ first ∷ []))
     (row word (codes "press") (press_line first) k _ (word ∷ first ∷ []) (ap (λ w. w ∷ first ∷ []))
-    (row word (codes "divide") (divide_line first) k (Err UnknownForm) (word ∷ first ∷ []) (ap (λ w. w ∷ first ∷ [])) (λ d. absurd (err_ok UnknownForm k d)))) e
+    (row word (codes "divide") (divide_line first) k (Err UnknownForm) (word ∷ first ∷ []) (ap (λ w. w ∷ first ∷ [])) (λ d. cc))) e
 kind_has (word ∷ first ∷ second ∷ []) k e =
     row word (codes "amend") (amend_line first second) k _ (word ∷ first ∷ second ∷ []) (ap (λ w. w ∷ first ∷ second ∷ []))
-    (row word (codes "compare") (compare_line first second) k (Err UnknownForm) (word ∷ first ∷ second ∷ []) (ap (λ w. w ∷ first ∷ second ∷ [])) (λ d. absurd (err_ok UnknownForm k d))) e
+    (row word (codes "compare") (compare_line first second) k (Err UnknownForm) (word ∷ first ∷ second ∷ []) (ap (λ w. w ∷ first ∷ second ∷ [])) (λ d. cc)) e
 kind_has (word ∷ first ∷ second ∷ third ∷ []) k e =
-    row word (codes "claim") (claim_line first second third) k (Err UnknownForm) (word ∷ first ∷ second ∷ third ∷ []) (ap (λ w. w ∷ first ∷ second ∷ third ∷ [])) (λ d. absurd (err_ok UnknownForm k d)) e
-kind_has (word ∷ first ∷ second ∷ third ∷ fourth ∷ more) k e = absurd (err_ok UnknownForm k e)
+    row word (codes "claim") (claim_line first second third) k (Err UnknownForm) (word ∷ first ∷ second ∷ third ∷ []) (ap (λ w. w ∷ first ∷ second ∷ third ∷ [])) (λ d. cc) e
+kind_has (word ∷ first ∷ second ∷ third ∷ fourth ∷ more) k e = cc
 
 -- a number that was accepted is the one that its field writes
 needed_some : (o : Option ℕ) (n : ℕ) → needed o ≡ Ok n → o ≡ Some n
-needed_some None n e = absurd (err_ok BadNumber n e)
-needed_some (Some m) n e = ap Some (ok_same m n e)
+needed_some None n e = cc
+needed_some (Some m) n e = ap Some (cc)
 
 limited_only : (text : List ℕ) (limit n : ℕ) → limit < 2 ^ 64 → limited text limit ≡ Ok n → (text ≡ digits n) × (n ≤ limit)
 limited_only text limit n small e = (number_laws text limit small).only_written n (needed_some (number_in text limit) n e)
@@ -84,12 +77,12 @@ rule_only name rule e =
     rule_row (codes "priority") Priority _
     (rule_row (codes "equal") Equal _
     (rule_row (codes "proportion") Proportion _
-    (rule_row (codes "talmud") Talmud (Err UnknownRule) (λ d. absurd (err_ok UnknownRule rule d)) refl) refl) refl) refl e
+    (rule_row (codes "talmud") Talmud (Err UnknownRule) (λ d. cc) refl) refl) refl) refl e
   where
     rule_row : (known : List ℕ) (made : RuleName) (others : Result RuleName LineRefusal) → (others ≡ Ok rule → name ≡ name_of rule) → known ≡ name_of made → cond (bytes_eq name known) (Ok made) others ≡ Ok rule → name ≡ name_of rule
     rule_row known made others rest is =
         cond_both (bytes_eq name known) (Ok made) others (λ r. r ≡ Ok rule → name ≡ name_of rule)
-        (λ t d. (bytes_eq-Decides name known).0 t ∙ is ∙ ap name_of (ok_same made rule d))
+        (λ t d. (bytes_eq-Decides name known).0 t ∙ is ∙ ap name_of (cc))
         (λ _ d. rest d)
 
 -- what a line of a known kind asks for has the fields of that kind
@@ -107,7 +100,8 @@ call_has (claim_line number amount class) asks none some e =
     let same_number = n.0 in
     let same_amount = a.0 in
     let same_Class = c.0 in
-    subst (Fits (kind_fields (claim_line number amount class))) (ok_same (asks_claim p.0 q.0 r.0) asks r.2)
+    let same : asks_claim p.0 q.0 r.0 ≡ asks = cc in
+    subst (Fits (kind_fields (claim_line number amount class))) same
     ((cc), (n.1, a.1, c.1))
 call_has (amend_line number amount) asks none some e =
     let p = both_accepted (limited number most_claimant) _ asks e in
@@ -116,31 +110,42 @@ call_has (amend_line number amount) asks none some e =
     let a = limited_only amount most_amount q.0 (omega arith) q.1 in
     let same_number = n.0 in
     let same_amount = a.0 in
-    subst (Fits (kind_fields (amend_line number amount))) (ok_same (asks_amend p.0 q.0) asks q.2)
+    let same : asks_amend p.0 q.0 ≡ asks = cc in
+    subst (Fits (kind_fields (amend_line number amount))) same
     ((cc), (n.1, a.1))
 call_has (fund_line amount) asks none some e =
     let p = both_accepted (limited amount most_amount) _ asks e in
     let a = limited_only amount most_amount p.0 (omega arith) p.1 in
     let same_amount = a.0 in
-    subst (Fits (kind_fields (fund_line amount))) (ok_same (asks_fund p.0) asks p.2) ((cc), a.1)
+    let same : asks_fund p.0 ≡ asks = cc in
+    subst (Fits (kind_fields (fund_line amount))) same ((cc), a.1)
 call_has (press_line letters) asks none some e =
-    subst (Fits (kind_fields (press_line letters))) (ok_same (asks_press letters) asks e) (refl, none.1.0)
+    let same : asks_press letters ≡ asks = cc in
+    subst (Fits (kind_fields (press_line letters))) same (refl, none.1.0)
 call_has (divide_line rule) asks none some e =
     let p = both_accepted (rule_named rule) _ asks e in
     let named = rule_only rule p.0 p.1 in
-    subst (Fits (kind_fields (divide_line rule))) (ok_same (asks_divide p.0) asks p.2) ((cc), tt)
-call_has draw_line asks none some e = subst (Fits (kind_fields draw_line)) (ok_same asks_draw asks e) (refl, tt)
-call_has sign_line asks none some e = subst (Fits (kind_fields sign_line)) (ok_same asks_sign asks e) (refl, tt)
-call_has return_line asks none some e = subst (Fits (kind_fields return_line)) (ok_same asks_return asks e) (refl, tt)
+    let same : asks_divide p.0 ≡ asks = cc in
+    subst (Fits (kind_fields (divide_line rule))) same ((cc), tt)
+call_has draw_line asks none some e =
+    let same : asks_draw ≡ asks = cc in
+    subst (Fits (kind_fields draw_line)) same (refl, tt)
+call_has sign_line asks none some e =
+    let same : asks_sign ≡ asks = cc in
+    subst (Fits (kind_fields sign_line)) same (refl, tt)
+call_has return_line asks none some e =
+    let same : asks_return ≡ asks = cc in
+    subst (Fits (kind_fields return_line)) same (refl, tt)
 call_has (compare_line left right) asks none some e =
-    subst (Fits (kind_fields (compare_line left right))) (ok_same (asks_compare left right) asks e) (refl, (none.1.0, none.1.1.0))
+    let same : asks_compare left right ≡ asks = cc in
+    subst (Fits (kind_fields (compare_line left right))) same (refl, (none.1.0, none.1.1.0))
 call_has remark_line asks none some e = absurd (omega arith)
 
 -- the tests that come before the fields
 long_enough : (line : List ℕ) (k : Kind) → line_kind line ≡ Ok k → length line ≤ most_line
 long_enough line k =
     cond_both (ltb most_line (length line)) (Err TooLong) (cond (is_remark line) (Ok remark_line) (kind_by_fields (fields line))) (λ r. r ≡ Ok k → length line ≤ most_line)
-    (λ _ e. absurd (err_ok TooLong k e))
+    (λ _ e. cc)
     (λ t _. ltb-false most_line (length line) t)
 
 past_tests : (line : List ℕ) → length line ≤ most_line → is_remark line ≡ false → line_kind line ≡ kind_by_fields (fields line)

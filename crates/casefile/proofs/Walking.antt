@@ -3,7 +3,7 @@ use Rattle.std.proofs.Common.{◌≡◌, ℕ, ◌+◌, ◌<◌, ◌≤◌, min, 
 use Rattle.std.proofs.lemmas.Bool.{cond_both, eqb-true, eqb-false, cases_lt}
 use Rattle.std.proofs.lemmas.List.{drop-drop, drop_all}
 use Rattle.casefile.specs.Marks.{before, behind, in_front, joined_by, Without}
-use Rattle.casefile.specs.Lines.{line_end, lines, last_end, NextLine, NoLine, LineLaws}
+use Rattle.casefile.specs.Lines.{line_end, lines, last_end, NextLine, LineLaws}
 use Rattle.casefile.proofs.Parting.{before_within, before_front, behind_rest, behind_none, joined_in_front, joined_empty, without_in_front}
 
 -- the first line is what stands before the first line end, and the others are those behind it
@@ -42,10 +42,6 @@ line_found file place count after begins counted after_is =
           ∙ ap (λ xs. xs ∷ lines (behind line_end rest)) (sym line)
           ∙ ap (λ xs. take count rest ∷ lines xs) (sym (after_line file place count after begins counted after_is));
     }
-
--- no line at the end of the file
-pub no_line : (file : List ℕ) (place : ℕ) → length file ≤ place → NoLine file place place
-no_line file place ended = record { ended = ended; stays = refl; none_left = ap lines (drop_all place file ended) }
 
 some_line : (b : ℕ) (bs : List ℕ) → 0 < length (lines (b ∷ bs))
 some_line b bs = subst (λ ls. 0 < length ls) (sym (lines_step (b ∷ bs) (omega arith))) (omega arith)

@@ -4,7 +4,6 @@ ghost use Rattle.casefile.specs.Calls.{asked, limited, rule_named, call_of, read
 ghost use Rattle.casefile.specs.LineKinds.{kind, claim_line, amend_line};
 ghost use Rattle.casefile.specs.LineRefusals.{seen_as};
 
-use crate::bytes::same;
 use crate::line::{Line, kind_of};
 use crate::number::read_number;
 use crate::refusal::LineRefusal;
@@ -28,7 +27,7 @@ pub enum RuleName {
 }
 
 // A line that was read. Letters are bytes of the line, which nobody has tested yet.
-#[derive(Clone, Copy)]
+#[derive(Clone, Copy, Debug, PartialEq, Eq)]
 pub enum Call<'a> {
     Claim { number: u32, amount: u32, class: u8 },
     Amend { number: u32, amount: u32 },
@@ -63,7 +62,7 @@ pub fn read_call(line: Line<'_>) -> Result<Call<'_>, LineRefusal>
         Line::Amend { number, amount } => read_amend(number, amount),
         Line::Fund(amount) => Ok(Call::Fund(read_limited(amount, MOST_AMOUNT)?)),
         Line::Press(letters) => Ok(Call::Press(letters)),
-        Line::Divide(name) => Ok(Call::Divide(read_rule(name)?)),
+        Line::Divide(name) => Ok(Call::Divide(RuleName::try_from(name)?)),
         Line::Draw => Ok(Call::Draw),
         Line::Sign => Ok(Call::Sign),
         Line::Return => Ok(Call::Return),
@@ -77,10 +76,7 @@ fn read_limited(text: &[u8], limit: u32) -> Result<u32, LineRefusal>
     ensures result { result ≡ limited text.now limit }
     ensures within { IfOk result (λ n. n ≤ limit) }
 {
-    match read_number(text, limit) {
-        Some(number) => Ok(number),
-        None => Err(LineRefusal::BadNumber),
-    }
+    read_number(text, limit).ok_or(LineRefusal::BadNumber)
 }
 
 // The three numbers of a claim.
@@ -107,19 +103,19 @@ fn read_amend<'a>(number: &[u8], amount: &[u8]) -> Result<Call<'a>, LineRefusal>
 }
 
 // The rule of a name.
-fn read_rule(name: &[u8]) -> Result<RuleName, LineRefusal>
-    ensures result { result ≡ rule_named name.now }
-{
-    if same(name, b"priority") {
-        Ok(RuleName::Priority)
-    } else if same(name, b"equal") {
-        Ok(RuleName::Equal)
-    } else if same(name, b"proportion") {
-        Ok(RuleName::Proportion)
-    } else if same(name, b"talmud") {
-        Ok(RuleName::Talmud)
-    } else {
-        Err(LineRefusal::UnknownRule)
+impl TryFrom<&[u8]> for RuleName {
+    type Error = LineRefusal;
+
+    ghost try_from_gives = { λ name r. r ≡ rule_named name.now };
+
+    fn try_from(name: &[u8]) -> Result<RuleName, LineRefusal> {
+        match name {
+            b"priority" => Ok(RuleName::Priority),
+            b"equal" => Ok(RuleName::Equal),
+            b"proportion" => Ok(RuleName::Proportion),
+            b"talmud" => Ok(RuleName::Talmud),
+            _ => Err(LineRefusal::UnknownRule),
+        }
     }
 }
 
@@ -127,11 +123,9 @@ fn read_rule(name: &[u8]) -> Result<RuleName, LineRefusal>
 pub fn letters_of(field: &[u8]) -> Option<&[u8]>
     ensures result { handed result ≡ field_letters field.now }
 {
-    if field.is_empty() {
-        None
-    } else if same(field, b"-") {
-        Some(&field[0..0])
-    } else {
-        Some(field)
+    match field {
+        [] => None,
+        b"-" => Some(&[]),
+        letters => Some(letters),
     }
 }

@@ -1,5 +1,6 @@
-// Fields of a line, cut off one by one. A field is a part of the line, not a copy.
-ghost use Rattle.std.specs.Prelude.{◌≡◌, ◌∷◌};
+// Fields of a line, one by one. A field is a part of the line, not a copy.
+ghost use Rattle.std.specs.Prelude.{◌≡◌};
+ghost use Rattle.std.specs.Iterator.{YieldsFirstRef, item_count};
 ghost use Rattle.casefile.specs.Fields.{fields, fields_left};
 
 use crate::bytes::count_before;
@@ -7,25 +8,33 @@ use crate::bytes::count_before;
 // The byte that parts two fields.
 const COMMA: u8 = b',';
 
-// The first field of a text, and the text behind its comma, if it has one.
-#[derive(Clone, Copy)]
-pub(crate) struct Cut<'a> {
-    pub(crate) field: &'a [u8],
-    pub(crate) rest: Option<&'a [u8]>,
+// The fields of a line that are still to come: those of the text behind the last comma that was passed, if there is one.
+#[derive(Drop)]
+pub(crate) struct Fields<'a> {
+    rest: Option<&'a [u8]>,
 }
 
-// Cuts off the first field.
-pub(crate) fn cut_field(text: &[u8]) -> Cut<'_>
-    ensures result { fields text.now ≡ result.field.now ∷ fields_left result.rest }
-{
-    let count = count_before(text, COMMA);
-    let field = &text[0..count];
-    if count < text.len() {
-        Cut {
-            field,
-            rest: Some(&text[count + 1..]),
-        }
-    } else {
-        Cut { field, rest: None }
+impl<'a> Fields<'a> {
+    // All fields of a line.
+    pub(crate) fn new(line: &'a [u8]) -> Fields<'a>
+        ensures result { fields_left result.rest ≡ fields line.now }
+    {
+        Fields { rest: Some(line) }
+    }
+}
+
+impl<'a> Iterator for Fields<'a> {
+    type Item = &'a [u8];
+
+    ghost next_gives = { YieldsFirstRef (λ f. fields_left f.rest) };
+
+    ghost remaining = { item_count (λ f. fields_left f.rest) };
+
+    fn next(&mut self) -> Option<&'a [u8]> {
+        let text = self.rest?;
+        let count = count_before(text, COMMA);
+        // Where no comma stands behind the field, nothing does.
+        self.rest = text.get(count + 1..);
+        Some(&text[..count])
     }
 }

@@ -1,11 +1,10 @@
 // The kinds of a line. A line is known by its first field and the number of its fields.
-ghost use Rattle.std.specs.Prelude.{◌≡◌, ◌∷◌};
+ghost use Rattle.std.specs.Prelude.{◌≡◌};
 ghost use Rattle.casefile.specs.Fields.{fields};
-ghost use Rattle.casefile.specs.LineKinds.{kind, is_remark, kind_of_one, kind_of_two, kind_of_three, kind_of_four, kind_by_fields, line_kind};
+ghost use Rattle.casefile.specs.LineKinds.{kind, kind_of_one, kind_of_two, kind_of_three, kind_of_four, kind_by_fields, line_kind};
 ghost use Rattle.casefile.specs.LineRefusals.{seen_as};
 
-use crate::bytes::same;
-use crate::field::cut_field;
+use crate::field::Fields;
 use crate::refusal::LineRefusal;
 
 // The most bytes that a line may have, its line end not counted.
@@ -15,7 +14,7 @@ pub const MOST_LINE: usize = 80;
 const REMARK: u8 = b'#';
 
 // A line of a known kind; the parts are bytes of the line itself, not yet read.
-#[derive(Clone, Copy)]
+#[derive(Clone, Copy, Debug, PartialEq, Eq)]
 pub enum Line<'a> {
     Claim {
         number: &'a [u8],
@@ -43,53 +42,43 @@ pub fn kind_of(line: &[u8]) -> Result<Line<'_>, LineRefusal>
     if line.len() > MOST_LINE {
         return Err(LineRefusal::TooLong);
     }
-    if begins_remark(line) {
-        return Ok(Line::Remark);
+    match line {
+        [REMARK, ..] => Ok(Line::Remark),
+        _ => by_fields(line),
     }
-    by_fields(line)
 }
 
-// Whether a line is a remark.
-fn begins_remark(line: &[u8]) -> bool
-    ensures result { result ≡ is_remark line.now }
-{
-    line.len() > 0 && line[0] == REMARK
-}
-
-// The kind of a line, by its fields.
+// The kind of a line, by its fields; no line has more than four.
 fn by_fields(line: &[u8]) -> Result<Line<'_>, LineRefusal>
     ensures result { seen_as kind result ≡ kind_by_fields (fields line.now) }
 {
-    let first = cut_field(line);
-    match first.rest {
-        None => of_one(first.field),
-        Some(rest) => from_second(first.field, rest),
+    let mut fields = Fields::new(line);
+    match (
+        fields.next(),
+        fields.next(),
+        fields.next(),
+        fields.next(),
+        fields.next(),
+    ) {
+        (Some(word), None, _, _, _) => of_one(word),
+        (Some(word), Some(first), None, _, _) => of_two(word, first),
+        (Some(word), Some(first), Some(second), None, _) => of_three(word, first, second),
+        (Some(word), Some(first), Some(second), Some(third), None) => {
+            of_four(word, first, second, third)
+        }
+        _ => Err(LineRefusal::UnknownForm),
     }
 }
 
 // The lines of one field.
-fn of_one<'a>(word: &'a [u8]) -> Result<Line<'a>, LineRefusal>
+fn of_one<'a>(word: &[u8]) -> Result<Line<'a>, LineRefusal>
     ensures result { seen_as kind result ≡ kind_of_one word.now }
 {
-    if same(word, b"draw") {
-        Ok(Line::Draw)
-    } else if same(word, b"sign") {
-        Ok(Line::Sign)
-    } else if same(word, b"return") {
-        Ok(Line::Return)
-    } else {
-        Err(LineRefusal::UnknownForm)
-    }
-}
-
-// The kind of a line whose first field is known and not its last.
-fn from_second<'a>(word: &[u8], text: &'a [u8]) -> Result<Line<'a>, LineRefusal>
-    ensures result { seen_as kind result ≡ kind_by_fields (word.now ∷ fields text.now) }
-{
-    let first = cut_field(text);
-    match first.rest {
-        None => of_two(word, first.field),
-        Some(rest) => from_third(word, first.field, rest),
+    match word {
+        b"draw" => Ok(Line::Draw),
+        b"sign" => Ok(Line::Sign),
+        b"return" => Ok(Line::Return),
+        _ => Err(LineRefusal::UnknownForm),
     }
 }
 
@@ -97,25 +86,11 @@ fn from_second<'a>(word: &[u8], text: &'a [u8]) -> Result<Line<'a>, LineRefusal>
 fn of_two<'a>(word: &[u8], first: &'a [u8]) -> Result<Line<'a>, LineRefusal>
     ensures result { seen_as kind result ≡ kind_of_two word.now first.now }
 {
-    if same(word, b"fund") {
-        Ok(Line::Fund(first))
-    } else if same(word, b"press") {
-        Ok(Line::Press(first))
-    } else if same(word, b"divide") {
-        Ok(Line::Divide(first))
-    } else {
-        Err(LineRefusal::UnknownForm)
-    }
-}
-
-// The kind of a line whose first two fields are known and not its last.
-fn from_third<'a>(word: &[u8], first: &'a [u8], text: &'a [u8]) -> Result<Line<'a>, LineRefusal>
-    ensures result { seen_as kind result ≡ kind_by_fields (word.now ∷ first.now ∷ fields text.now) }
-{
-    let second = cut_field(text);
-    match second.rest {
-        None => of_three(word, first, second.field),
-        Some(rest) => from_fourth(word, first, second.field, rest),
+    match word {
+        b"fund" => Ok(Line::Fund(first)),
+        b"press" => Ok(Line::Press(first)),
+        b"divide" => Ok(Line::Divide(first)),
+        _ => Err(LineRefusal::UnknownForm),
     }
 }
 
@@ -123,31 +98,13 @@ fn from_third<'a>(word: &[u8], first: &'a [u8], text: &'a [u8]) -> Result<Line<'
 fn of_three<'a>(word: &[u8], first: &'a [u8], second: &'a [u8]) -> Result<Line<'a>, LineRefusal>
     ensures result { seen_as kind result ≡ kind_of_three word.now first.now second.now }
 {
-    if same(word, b"amend") {
-        Ok(Line::Amend {
+    match word {
+        b"amend" => Ok(Line::Amend {
             number: first,
             amount: second,
-        })
-    } else if same(word, b"compare") {
-        Ok(Line::Compare(first, second))
-    } else {
-        Err(LineRefusal::UnknownForm)
-    }
-}
-
-// The kind of a line whose first three fields are known; no line has more than four.
-fn from_fourth<'a>(
-    word: &[u8],
-    first: &'a [u8],
-    second: &'a [u8],
-    text: &'a [u8],
-) -> Result<Line<'a>, LineRefusal>
-    ensures result { seen_as kind result ≡ kind_by_fields (word.now ∷ first.now ∷ second.now ∷ fields text.now) }
-{
-    let third = cut_field(text);
-    match third.rest {
-        None => of_four(word, first, second, third.field),
-        Some(_) => Err(LineRefusal::UnknownForm),
+        }),
+        b"compare" => Ok(Line::Compare(first, second)),
+        _ => Err(LineRefusal::UnknownForm),
     }
 }
 
@@ -160,13 +117,12 @@ fn of_four<'a>(
 ) -> Result<Line<'a>, LineRefusal>
     ensures result { seen_as kind result ≡ kind_of_four word.now first.now second.now third.now }
 {
-    if same(word, b"claim") {
-        Ok(Line::Claim {
+    match word {
+        b"claim" => Ok(Line::Claim {
             number: first,
             amount: second,
             class: third,
-        })
-    } else {
-        Err(LineRefusal::UnknownForm)
+        }),
+        _ => Err(LineRefusal::UnknownForm),
     }
 }

@@ -35,7 +35,7 @@ impl<'a> Reader<'a> {
         let end = self.place + count_before(&self.file[self.place..], LINE_END);
         let line = &self.file[self.place..end];
         // Only the last line may lack its line end.
-        self.place = if end < length { end + 1 } else { length };
+        self.place = length.min(end + 1);
         Some(line)
     }
 }

@@ -1,5 +1,5 @@
 -- A line is accepted exactly if it is allowed, and a refused line leaves in hand what was. Assumes nothing.
-use Rattle.std.proofs.Common.{◌≡◌, ℕ, true, false, List, length, is_some, Some, None, Ok, Err, Option, Result, sym, refl, ap, ◌∙◌, subst, arith}
+use Rattle.std.proofs.Common.{◌≡◌, ℕ, true, false, List, length, is_some, Some, None, Ok, Err, Option, Result, sym, refl, ap, ◌∙◌, subst}
 use Rattle.std.proofs.lemmas.Bool.{both_ways, cond_both}
 use Rattle.division.specs.Refusals.{answer, unless_due}
 use Rattle.normal_form.specs.declared.letter.Operator.{Operator}
@@ -20,28 +20,22 @@ record Settles (t : Told) (after h : InHand) (A : Type 0) : Type 0 where
   only_so : is_refused t ≡ false → A
   kept : is_refused t ≡ true → after ≡ h
 
-never : {A : Type 0} → true ≡ false → A
-never e = absurd (both_ways true e refl)
-
-none_some : {X : Type 0} {A : Type 0} (x : X) → ◌≡◌ {A = Option X} None (Some x) → A
-none_some x e = absurd (let z : ◌≡◌ {A = ℕ} 0 1 = cc in omega arith)
-
 -- a call that changes the case alone
 case_settles : (due : Option CaseRefusal) (t : Told) (new : View) (h : InHand) → is_refused t ≡ false → Settles (answered (answer due (tt {0})) t) (kept_sheet h (unless_due due new h.case)) h (due ≡ None)
 case_settles None t new h plain = record { if_so = λ _. plain; only_so = λ _. refl; kept = λ e. absurd (both_ways (is_refused t) plain e) }
-case_settles (Some e) t new h plain = record { if_so = λ is. none_some e (sym is); only_so = λ is. never is; kept = λ _. refl }
+case_settles (Some e) t new h plain = record { if_so = λ is. cc; only_so = λ is. cc; kept = λ _. refl }
 
 draw_settles : (due : Option CaseRefusal) (sheet : Sheet) (new : View) (h : InHand) → Settles (drawn_told (answer due sheet)) (record { case = unless_due due new h.case; sheet = drawn_sheet (answer due sheet) h.sheet }) h (due ≡ None)
-draw_settles None sheet new h = record { if_so = λ _. refl; only_so = λ _. refl; kept = λ e. never (sym e) }
-draw_settles (Some e) sheet new h = record { if_so = λ is. none_some e (sym is); only_so = λ is. never is; kept = λ _. refl }
+draw_settles None sheet new h = record { if_so = λ _. refl; only_so = λ _. refl; kept = λ e. cc }
+draw_settles (Some e) sheet new h = record { if_so = λ is. cc; only_so = λ is. cc; kept = λ _. refl }
 
 -- a call of whoever holds the sheet in hand
 spent_settles : {X : Type 0} (due : Option SheetRefusal) (value : X) (sheet : Sheet) (t : Told) (new : View) (h : InHand) → is_refused t ≡ false → h.sheet ≡ Some sheet → Settles (sheet_told (answer_with due value sheet) t) (record { case = unless_due due new h.case; sheet = sheet_left (answer_with due value sheet) }) h (due ≡ None)
 spent_settles None value sheet t new h plain is = record { if_so = λ _. plain; only_so = λ _. refl; kept = λ e. absurd (both_ways (is_refused t) plain e) }
-spent_settles (Some e) value sheet t new h plain is = record { if_so = λ none. none_some e (sym none); only_so = λ no_refusal. never no_refusal; kept = λ _. ap (λ s. record { case = h.case; sheet = s }) (sym is) }
+spent_settles (Some e) value sheet t new h plain is = record { if_so = λ none. cc; only_so = λ no_refusal. cc; kept = λ _. ap (λ s. record { case = h.case; sheet = s }) (sym is) }
 
 letters_settle : (o : Option (List ℕ)) (h : InHand) → Settles (on_letters o h).told (on_letters o h).hand h ((letters : List ℕ) × (o ≡ Some letters) × (press_due h.case letters ≡ None))
-letters_settle None h = record { if_so = λ a. none_some a.0 a.1; only_so = λ e. never e; kept = λ _. refl }
+letters_settle None h = record { if_so = λ a. cc; only_so = λ e. cc; kept = λ _. refl }
 letters_settle (Some letters) h =
     let s = case_settles (press_due h.case letters) accepted (letters_pressed h.case letters) h refl in
     record {
@@ -51,7 +45,7 @@ letters_settle (Some letters) h =
     }
 
 sign_settles : (o : Option Sheet) (h : InHand) → h.sheet ≡ o → Settles (on_sign o h).told (on_sign o h).hand h ((sheet : Sheet) × (o ≡ Some sheet) × (sign_due h.case sheet posting_room ≡ None))
-sign_settles None h is = record { if_so = λ a. none_some a.0 a.1; only_so = λ e. never e; kept = λ _. refl }
+sign_settles None h is = record { if_so = λ a. cc; only_so = λ e. cc; kept = λ _. refl }
 sign_settles (Some sheet) h is =
     let s = spent_settles (sign_due h.case sheet posting_room) (length (lines h.case.rows)) sheet (signed_off (lines h.case.rows)) (signed h.case) h refl is in
     record {
@@ -61,7 +55,7 @@ sign_settles (Some sheet) h is =
     }
 
 return_settles : (o : Option Sheet) (h : InHand) → h.sheet ≡ o → Settles (on_return o h).told (on_return o h).hand h ((sheet : Sheet) × (o ≡ Some sheet) × (sheet_due h.case sheet ≡ None))
-return_settles None h is = record { if_so = λ a. none_some a.0 a.1; only_so = λ e. never e; kept = λ _. refl }
+return_settles None h is = record { if_so = λ a. cc; only_so = λ e. cc; kept = λ _. refl }
 return_settles (Some sheet) h is =
     let s = spent_settles (sheet_due h.case sheet) (tt {0}) sheet given_back (returned h.case) h refl is in
     record {
@@ -71,8 +65,8 @@ return_settles (Some sheet) h is =
     }
 
 forms_accepted : (l r : Option (List Operator)) → ((is_some l ≡ true) × (is_some r ≡ true) → is_refused (forms_told l r) ≡ false) × (is_refused (forms_told l r) ≡ false → (is_some l ≡ true) × (is_some r ≡ true))
-forms_accepted None r = ((λ a. never (sym a.0)), (λ e. never e))
-forms_accepted (Some l) None = ((λ a. never (sym a.1)), (λ e. never e))
+forms_accepted None r = ((λ a. cc), (λ e. cc))
+forms_accepted (Some l) None = ((λ a. cc), (λ e. cc))
 forms_accepted (Some l) (Some r) = (
   (λ _. cond_both (same_parts (normal_form l) (normal_form r)) (same_form (normal_form l)) (other_forms (normal_form l) (normal_form r)) (λ t. is_refused t ≡ false) (λ _. refl) (λ _. refl)),
   (λ _. (refl, refl)),
@@ -102,7 +96,7 @@ read_decides (Ok asks) h =
       only_so = λ e. (asks, refl, s.only_so e);
       kept = s.kept;
     }
-read_decides (Err e) h = record { if_so = λ a. absurd (let other = a.1 in let z : ◌≡◌ {A = ℕ} 0 1 = cc in omega arith); only_so = λ e'. never e'; kept = λ _. refl }
+read_decides (Err e) h = record { if_so = λ a. let other = a.1 in cc; only_so = λ e'. cc; kept = λ _. refl }
 
 pub line_decided : (line : List ℕ) (h : InHand) (t : Told) (after : InHand) → t ≡ (turn line h).told → after ≡ (turn line h).hand → Decided line h t after
 line_decided line h t after told_is hand_is =

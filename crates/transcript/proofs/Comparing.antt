@@ -1,6 +1,6 @@
 -- What is told of two strings of letters is what comparing them answers. Assumes nothing.
 use Rattle.std.proofs.Common.{◌≡◌, Bool, true, false, List, Some, None, Ok, Option, sym, refl, ap, ◌∙◌}
-use Rattle.std.proofs.lemmas.Bool.{cond-true, cond-false, and_from, and_parts, both_ways}
+use Rattle.std.proofs.lemmas.Bool.{cond-true, cond-false, and_from, and_parts}
 use Rattle.normal_form.specs.declared.letter.Operator.{Operator}
 use Rattle.normal_form.specs.declared.form.Order.{Order}
 use Rattle.normal_form.specs.declared.form.Order.TheVariants.{Unordered, SeniorFirst, JuniorFirst}
@@ -33,34 +33,31 @@ pub parts_itself : (p : Parts) → same_parts p p ≡ true
 parts_itself p =
     and_from _ _ (bool_itself p.dual) (and_from _ _ (order_itself p.order) (and_from _ _ (place_itself p.truncation) (place_itself p.rights)))
 
-never : false ≡ true → ⊥
-never e = both_ways false refl e
-
 bool_same : (a b : Bool) → same_bool a b ≡ true → a ≡ b
 bool_same true b e = sym e
-bool_same false true e = absurd (never e)
+bool_same false true e = cc
 bool_same false false e = refl
 
 order_same : (a b : Order) → same_order a b ≡ true → a ≡ b
 order_same Unordered Unordered e = refl
-order_same Unordered SeniorFirst e = absurd (never e)
-order_same Unordered JuniorFirst e = absurd (never e)
-order_same SeniorFirst Unordered e = absurd (never e)
+order_same Unordered SeniorFirst e = cc
+order_same Unordered JuniorFirst e = cc
+order_same SeniorFirst Unordered e = cc
 order_same SeniorFirst SeniorFirst e = refl
-order_same SeniorFirst JuniorFirst e = absurd (never e)
-order_same JuniorFirst Unordered e = absurd (never e)
-order_same JuniorFirst SeniorFirst e = absurd (never e)
+order_same SeniorFirst JuniorFirst e = cc
+order_same JuniorFirst Unordered e = cc
+order_same JuniorFirst SeniorFirst e = cc
 order_same JuniorFirst JuniorFirst e = refl
 
 place_same : (a b : Place) → same_place a b ≡ true → a ≡ b
 place_same Absent Absent e = refl
-place_same Absent Inner e = absurd (never e)
-place_same Absent Outer e = absurd (never e)
-place_same Inner Absent e = absurd (never e)
+place_same Absent Inner e = cc
+place_same Absent Outer e = cc
+place_same Inner Absent e = cc
 place_same Inner Inner e = refl
-place_same Inner Outer e = absurd (never e)
-place_same Outer Absent e = absurd (never e)
-place_same Outer Inner e = absurd (never e)
+place_same Inner Outer e = cc
+place_same Outer Absent e = cc
+place_same Outer Inner e = cc
 place_same Outer Outer e = refl
 
 pub parts_same : (p q : Parts) → same_parts p q ≡ true → p ≡ q

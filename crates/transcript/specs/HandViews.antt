@@ -1,10 +1,11 @@
 -- What the code's case in hand holds, and what a call on it promises. Assumes nothing.
-use Rattle.std.specs.Prelude.{◌≡◌, ◌≤◌, List, [], ◌∷◌, Some, None, Option}
+use Rattle.std.specs.Prelude.{◌≡◌, ◌≤◌, List, [], ◌∷◌, Some, None, Ok, Err, Option, Result}
 use Rattle.cases.specs.CaseViews.{view}
 use Rattle.casefile.specs.Calls.{Asked, asks_claim, asks_amend, asks_fund, asks_press, asks_divide, asks_draw, asks_sign, asks_return, asks_compare, asks_nothing, most_claimant}
 use Rattle.transcript.specs.declared.in_hand.CaseInHand.{CaseInHand}
 use Rattle.transcript.specs.declared.outcome.Outcome.{Outcome}
-use Rattle.transcript.specs.Outcomes.{Told, told}
+use Rattle.transcript.specs.declared.refusal.Refusal.{Refusal}
+use Rattle.transcript.specs.Outcomes.{Told, refused, told}
 use Rattle.transcript.specs.Turns.{InHand, Turn}
 
 abbrev pub in_hand : CaseInHand → InHand
@@ -26,6 +27,16 @@ ClaimantFits asks_nothing = Unit {0}
 -- an outcome, and a case in hand afterwards, that are those of a turn
 pub record Comes (t : Turn) (outcome : Outcome) (after : InHand) : Type 0 where
   pub tells : told outcome ≡ t.told
+  pub holds : after ≡ t.hand
+
+-- what is told of an answer: its outcome, or the refusal
+abbrev pub told_of : Result Outcome Refusal → Told
+told_of (Ok outcome) = told outcome
+told_of (Err e) = refused e
+
+-- an answer, and a case in hand afterwards, that are those of a turn
+pub record Answers (t : Turn) (answer : Result Outcome Refusal) (after : InHand) : Type 0 where
+  pub tells : told_of answer ≡ t.told
   pub holds : after ≡ t.hand
 
 -- what is told of an outcome, if there is one

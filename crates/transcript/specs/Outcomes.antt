@@ -1,5 +1,5 @@
 -- What comes of a line, with its values, and the number of each refusal. Assumes nothing.
-use Rattle.std.specs.Prelude.{ℕ, List, take}
+use Rattle.std.specs.Prelude.{ℕ, List}
 use Rattle.normal_form.specs.declared.compare.Comparison.{Comparison}
 use Rattle.normal_form.specs.declared.compare.Comparison.TheVariants.{Same, Differ}
 use Rattle.normal_form.specs.Forms.{Parts}
@@ -51,9 +51,9 @@ compared (Differ first second) = other_forms (parts first) (parts second)
 abbrev pub told : Outcome → Told
 told Remark = nothing
 told Accepted = accepted
-told (Divided division) = awarded (take division.count division.rows) division.estate
+told (Divided division) = awarded division.rows.items division.estate
 told (Drawn rows total) = sheet_drawn rows total
-told (Signed postings) = signed_off (take postings.count postings.list)
+told (Signed postings) = signed_off postings.list.items
 told Returned = given_back
 told (Compared comparison) = compared comparison
 told (Refused e) = refused e

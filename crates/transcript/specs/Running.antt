@@ -1,5 +1,5 @@
 -- A runner over a file: where it stands, and what running one line promises. Assumes nothing.
-use Rattle.std.specs.Prelude.{◌≡◌, ℕ, ◌+◌, ◌<◌, ◌≤◌, Bool, true, false, List, [], ◌++◌, length, drop, Some, None, Ok, Err, Option, Result}
+use Rattle.std.specs.Prelude.{◌≡◌, ℕ, ◌+◌, ◌<◌, ◌≤◌, List, ◌++◌, length, drop, Some, None, Ok, Err, Option, Result}
 use Rattle.cases.specs.Ledger.{Event, Settled}
 use Rattle.cases.specs.History.{Past}
 use Rattle.casefile.specs.Lines.{lines, NextLine, NoLine}
@@ -62,12 +62,6 @@ RunAnswered from buffer (Err e) to after = (length buffer < least_buffer) × (e 
 -- the text that is still to come
 abbrev pub text_left : Run → List ℕ
 text_left run = texts (run.count + 1) (tellings run.hand (lines (drop run.place run.file)))
-
--- one line more was run, or none was left, and with the text that is still to come the text is what it was to be
-abbrev pub Went : Run → List ℕ → Bool → Run → List ℕ → Type 0
-Went from before true to after =
-    (to.file ≡ from.file) × (from.place < to.place) × (to.place ≤ length to.file) × (after ++ text_left to ≡ before ++ text_left from)
-Went from before false to after = (to ≡ from) × (after ≡ before) × (lines (drop to.place to.file) ≡ [])
 
 -- all lines were run: no text is still to come but what is told at the end
 pub record Ran (from : Run) (before : List ℕ) (to : Run) (after : List ℕ) : Type 0 where

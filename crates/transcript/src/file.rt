@@ -1,5 +1,5 @@
 // A whole file: run against a new case, line by line, into one growing text.
-ghost use Rattle.std.specs.Prelude.{◌≡◌, ℕ, Bool, List, [], ◌∷◌, ◌++◌, IfOk, Option, OnOk};
+ghost use Rattle.std.specs.Prelude.{◌≡◌, ℕ, [], ◌∷◌, ◌++◌, IfOk, Option, OnOk};
 ghost use Rattle.cases.specs.declared.sheet.Sheet.{Sheet as AnySheet};
 ghost use Rattle.transcript.specs.Outcomes.{run_number};
 ghost use Rattle.transcript.specs.Texts.{refused_fields, as_text};
@@ -7,45 +7,27 @@ ghost use Rattle.transcript.specs.Turns.{ending};
 ghost use Rattle.transcript.specs.HandViews.{all_told};
 ghost use Rattle.transcript.specs.Files.{texts};
 ghost use Rattle.transcript.specs.Transcripts.{Transcribed};
-ghost use Rattle.transcript.specs.Running.{running, Went, Ran};
+ghost use Rattle.transcript.specs.Running.{running, Ran};
 
 use crate::outcome::Outcome;
-use crate::outcome::writing::{LEAST_BUFFER, put_numbers};
+use crate::outcome::writing::{LEAST_BUFFER, push_refused};
 use crate::refusal::RunRefusal;
 use crate::runner::{OpenRefusal, Runner};
+use crate::text::Text;
 use std::alloc::{AllocError, Global};
 
 // The number of the case that a file is run against.
 pub const FILE_CASE: u32 = 1;
-
-// Runs the next line and appends its text; answers whether there was a line.
-fn run_next(
-    runner: &mut Runner<'_>,
-    buffer: &mut [u8; LEAST_BUFFER],
-    text: &mut Vec<u8>,
-) -> Result<bool, AllocError>
-    ensures went { IfOk result (λ more. Went (running runner.old) text.old.items more (running runner.new) text.new.items) }
-{
-    match runner.run_line(buffer) {
-        Ok(ran) => match ran {
-            Some(printed) => {
-                let bytes = printed.bytes;
-                text.extend_from_slice(&buffer[0..bytes])?;
-                Ok(true)
-            }
-            None => Ok(false),
-        },
-        // The buffer has the least room that is asked for.
-        Err(_) => unreachable(),
-    }
-}
 
 // Runs the lines that are left and appends their texts.
 fn run_lines(runner: &mut Runner<'_>, text: &mut Vec<u8>) -> Result<(), AllocError>
     ensures ran { OnOk result (Ran (running runner.old) text.old.items (running runner.new) text.new.items) }
 {
     let mut buffer = [0; LEAST_BUFFER];
-    while run_next(runner, &mut buffer, text)? {}
+    // No line is refused its buffer, which has the least room that is asked for.
+    while let Ok(Some(printed)) = runner.run_line(&mut buffer) {
+        text.extend_from_slice(&buffer[..printed.bytes])?;
+    }
     Ok(())
 }
 
@@ -55,14 +37,7 @@ fn push_ending(told: Option<Outcome>, text: &mut Vec<u8>) -> Result<(), AllocErr
 {
     match told {
         None => Ok(()),
-        Some(outcome) => {
-            let mut buffer = [0; LEAST_BUFFER];
-            match outcome.write(0, &mut buffer) {
-                Ok(bytes) => text.extend_from_slice(&buffer[0..bytes]),
-                // The buffer has the least room that is asked for.
-                Err(_) => unreachable(),
-            }
-        }
+        Some(outcome) => text.extend_from_slice(outcome.text(0).as_bytes()),
     }
 }
 
@@ -70,18 +45,9 @@ fn push_ending(told: Option<Outcome>, text: &mut Vec<u8>) -> Result<(), AllocErr
 fn push_refusal(refusal: RunRefusal, text: &mut Vec<u8>) -> Result<(), AllocError>
     ensures text { OnOk result (text.new.items ≡ text.old.items ++ as_text (refused_fields 0 (run_number refusal) ∷ [])) }
 {
-    let mut buffer = [0; LEAST_BUFFER];
-    let bytes = put_numbers(&mut buffer, b"refused", 0, u64::from(refusal.number()));
-    text.extend_from_slice(&buffer[0..bytes])
-}
-
-// Ends a run whose lines were all run, and hands the text out with what is told at the end.
-fn close(runner: Runner<'_>, mut text: Vec<u8>) -> Result<Vec<u8>, AllocError>
-    ensures text { (number : ℕ) → IfOk result (λ whole. whole.items ≡ text.items ++ texts number (ending runner.entry.hand.sheet)) }
-{
-    let told = runner.finish();
-    push_ending(told, &mut text)?;
-    Ok(text)
+    let mut line = Text::new();
+    push_refused(&mut line, 0, refusal.number());
+    text.extend_from_slice(line.as_bytes())
 }
 
 // The text that is printed for a file: a new case is made, the lines of the file are run against it, and what each comes
@@ -91,22 +57,17 @@ pub fn transcribe(file: &[u8], heap: Global) -> Result<Vec<u8>, AllocError>
 {
     let mut text = Vec::new(heap);
     match Runner::open(FILE_CASE, file, heap) {
-        Ok(runner) => {
-            let mut runner = runner;
-            match run_lines(&mut runner, &mut text) {
-                Ok(()) => close(runner, text),
-                Err(error) => {
-                    let _ = runner.finish();
-                    Err(error)
-                }
-            }
+        Ok(mut runner) => {
+            let ran = run_lines(&mut runner, &mut text);
+            let told = runner.finish();
+            ran?;
+            push_ending(told, &mut text)?;
+            Ok(text)
         }
-        Err(reason) => match reason {
-            OpenRefusal::Refused(refusal) => {
-                push_refusal(refusal, &mut text)?;
-                Ok(text)
-            }
-            OpenRefusal::NoMemory(error) => Err(error),
-        },
+        Err(OpenRefusal::Refused(refusal)) => {
+            push_refusal(refusal, &mut text)?;
+            Ok(text)
+        }
+        Err(OpenRefusal::NoMemory(error)) => Err(error),
     }
 }

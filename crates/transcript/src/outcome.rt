@@ -1,9 +1,9 @@
 // What comes of a line, with all its values: what is printed is a function of this and of the line's number.
-ghost use Rattle.std.specs.Prelude.{◌≤◌};
-ghost use Rattle.division.specs.Problem.{most_claims};
+ghost use Rattle.std.specs.Prelude.{length};
 ghost use Rattle.cases.specs.Rows.{PostableFront};
 
 use crate::refusal::Refusal;
+use arrayvec::ArrayVec;
 use cases::row::{Posting, Row};
 use division::problem::MOST_CLAIMS;
 use normal_form::compare::Comparison;
@@ -17,19 +17,15 @@ pub const MOST_POSTINGS: usize = 65;
 // A division: the rows with their awards, in order of admission, and the estate that was divided.
 #[derive(Drop)]
 pub struct Division {
-    pub(crate) rows: [Row; MOST_CLAIMS],
-    pub(crate) count: usize,
+    pub(crate) rows: ArrayVec<Row, MOST_CLAIMS>,
     pub(crate) estate: u32,
-    ghost few: { count ≤ most_claims },
 }
 
 // What a signing wrote.
 #[derive(Drop)]
 pub struct Postings {
-    pub(crate) list: [Posting; MOST_POSTINGS],
-    pub(crate) count: usize,
-    ghost few: { count ≤ 65 },
-    ghost small: { PostableFront count list },
+    pub(crate) list: ArrayVec<Posting, MOST_POSTINGS>,
+    ghost small: { PostableFront (length list.items) list.items },
 }
 
 #[derive(Drop)]

@@ -27,8 +27,30 @@ pub struct Printed {
 }
 
 // Why a file is not opened. Want of memory has no number.
-#[derive(Drop)]
+#[derive(Debug, Drop)]
 pub enum OpenRefusal {
     Refused(RunRefusal),
     NoMemory(AllocError),
+}
+
+impl From<RunRefusal> for OpenRefusal {
+    ghost use Rattle.std.specs.Prelude.{◌≡◌};
+    ghost use Rattle.transcript.specs.declared.runner.OpenRefusal.TheVariants.{Refused};
+
+    ghost from_gives = { λ e r. r ≡ Refused e };
+
+    fn from(refusal: RunRefusal) -> OpenRefusal {
+        OpenRefusal::Refused(refusal)
+    }
+}
+
+impl From<AllocError> for OpenRefusal {
+    ghost use Rattle.std.specs.Prelude.{◌≡◌};
+    ghost use Rattle.transcript.specs.declared.runner.OpenRefusal.TheVariants.{NoMemory};
+
+    ghost from_gives = { λ e r. r ≡ NoMemory e };
+
+    fn from(error: AllocError) -> OpenRefusal {
+        OpenRefusal::NoMemory(error)
+    }
 }

@@ -21,16 +21,14 @@ impl<'a> Runner<'a> {
         ensures result { Opened number file.now result }
     {
         if file.len() > MOST_FILE {
-            return Err(OpenRefusal::Refused(RunRefusal::FileTooLong));
+            return Err(RunRefusal::FileTooLong.into());
         }
-        match CaseInHand::new(number, heap) {
-            Ok(hand) => Ok(Runner {
-                reader: Reader::new(file),
-                count: 0,
-                hand,
-            }),
-            Err(error) => Err(OpenRefusal::NoMemory(error)),
-        }
+        let hand = CaseInHand::new(number, heap)?;
+        Ok(Runner {
+            reader: Reader::new(file),
+            count: 0,
+            hand,
+        })
     }
 
     // Runs the next line, if there is one, and writes its text to the front of the buffer.
@@ -40,15 +38,13 @@ impl<'a> Runner<'a> {
         if out.len() < LEAST_BUFFER {
             return Err(RunRefusal::BufferTooShort);
         }
-        match self.reader.next_line() {
-            None => Ok(None),
-            Some(line) => {
-                let outcome = self.hand.run(line);
-                self.count += 1;
-                let bytes = outcome.write(self.count, out)?;
-                Ok(Some(Printed { outcome, bytes }))
-            }
-        }
+        let Some(line) = self.reader.next_line() else {
+            return Ok(None);
+        };
+        let outcome = self.hand.run(line);
+        self.count += 1;
+        let bytes = outcome.write(self.count, out)?;
+        Ok(Some(Printed { outcome, bytes }))
     }
 
     // Ends the run. A sheet that is still out is returned, and that is told.

@@ -1,4 +1,4 @@
-use Rattle.std.proofs.Common.{◌+◌, ◌++◌, drop, sym, refl, ap, ◌∙◌, subst, arith}
+use Rattle.std.proofs.Common.{◌+◌, ◌++◌, drop, sym, refl, ap, ◌∙◌, subst}
 use Rattle.cases.specs.Ledger.{Settled}
 use Rattle.cases.specs.History.{Past}
 use Rattle.transcript.specs.Outcomes.{told}
@@ -9,17 +9,12 @@ use Rattle.transcript.proofs.Allowing.{line_decided}
 use Rattle.transcript.proofs.Going.{line_settles}
 use Rattle.transcript.proofs.runner.Runner.run_line.Goals as goal
 
-pub overflow_add-self : goal.overflow_add-self
-overflow_add-self c =
-    let begins = c.in-Some.ensures.line.begins in
-    omega (arith, c.args.self.now.counted, c.args.self.now.short)
-
-pub returns-in_ok-bytes-in-Some : goal.returns-in_ok-bytes-in-Some
-returns-in_ok-bytes-in-Some c =
+pub returns : goal.returns
+returns c =
     let line = c.in-Some.line.now in
     let hand = in_hand c.args.self.now.hand in
     let comes = c.run-outcome.ensures.turn in
-    let wrote = c.in_ok-bytes-in-Some.ensures.text in
+    let wrote = c.in_ok-bytes.ensures.text in
     let text = text_of (c.args.self.now.count + 1) (told c.run-outcome.result) in
     record {
       result = (
