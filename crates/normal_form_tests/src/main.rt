@@ -82,7 +82,7 @@ mod tests {
     use std::process::Abort;
     use std::test::Fail;
 
-    // What the call answers: 0 for work done, and else the refusal's number, with the list checked to be as it was.
+    // What the call answers, a refusal by its number, with the list checked to be as it was then.
     fn answered<R: Rule>(
         rt: &(impl Abort + AllocGlobal),
         rule: &R,
@@ -91,14 +91,14 @@ mod tests {
         claims: &[u32],
         estate: u32,
         room: usize,
-    ) -> Result<u8, Fail> {
+    ) -> Result<Result<(), u8>, Fail> {
         let mut out = vec![in rt.alloc(); 7u32; room]?;
         let before = vec![in rt.alloc(); 7u32; room]?;
         match apply(letters.as_bytes(), rule, classes, claims, estate, &mut out) {
-            Ok(()) => Ok(0),
+            Ok(()) => Ok(Ok(())),
             Err(refusal) => {
                 assert!(rt; out.as_slice() == before.as_slice());
-                Ok(refusal.number())
+                Ok(Err(refusal.number()))
             }
         }
     }
@@ -108,29 +108,59 @@ mod tests {
         let big = 4_294_967_295;
         assert_eq!(rt;
             answered(&rt, &Talmud, "q", &[0; 3], &[big; 65], big, 2)?,
-            1
+            Err(1)
         );
         assert_eq!(rt;
             answered(&rt, &Talmud, "q", &[0; 3], &[big; 64], big, 2)?,
-            2
+            Err(2)
         );
-        assert_eq!(rt; answered(&rt, &Talmud, "q", &[0; 3], &[big; 2], big, 2)?, 2);
-        assert_eq!(rt; answered(&rt, &Talmud, "q", &[0; 2], &[big; 2], big, 2)?, 3);
-        assert_eq!(rt; answered(&rt, &Talmud, "q", &[0; 2], &[5; 2], big, 2)?, 4);
-        assert_eq!(rt; answered(&rt, &Talmud, "q", &[0; 2], &[5; 2], 5, 2)?, 5);
-        assert_eq!(rt; answered(&rt, &Talmud, "q", &[1; 2], &[5; 2], 5, 2)?, 7);
-        assert_eq!(rt; answered(&rt, &Talmud, "sdt", &[1; 2], &[5; 2], 5, 2)?, 0);
+        assert_eq!(rt;
+            answered(&rt, &Talmud, "q", &[0; 3], &[big; 2], big, 2)?,
+            Err(2)
+        );
+        assert_eq!(rt;
+            answered(&rt, &Talmud, "q", &[0; 2], &[big; 2], big, 2)?,
+            Err(3)
+        );
+        assert_eq!(rt;
+            answered(&rt, &Talmud, "q", &[0; 2], &[5; 2], big, 2)?,
+            Err(4)
+        );
+        assert_eq!(rt;
+            answered(&rt, &Talmud, "q", &[0; 2], &[5; 2], 5, 2)?,
+            Err(5)
+        );
+        assert_eq!(rt;
+            answered(&rt, &Talmud, "q", &[1; 2], &[5; 2], 5, 2)?,
+            Err(7)
+        );
+        assert_eq!(rt;
+            answered(&rt, &Talmud, "sdt", &[1; 2], &[5; 2], 5, 2)?,
+            Ok(())
+        );
         Ok(())
     }
 
     #[test]
     fn class_lists(rt: HostRuntime) -> Result<(), Fail> {
-        assert_eq!(rt; answered(&rt, &Priority, "s", &[1], &[5; 2], 5, 2)?, 2);
-        assert_eq!(rt; answered(&rt, &Priority, "s", &[1; 3], &[5; 2], 5, 2)?, 2);
-        assert_eq!(rt; answered(&rt, &Priority, "", &[1, 0], &[5; 2], 5, 2)?, 5);
-        assert_eq!(rt; answered(&rt, &Priority, "", &[9, 1], &[5; 2], 5, 2)?, 5);
-        assert_eq!(rt; answered(&rt, &Priority, "", &[8, 1], &[5; 2], 5, 2)?, 0);
-        assert_eq!(rt; answered(&rt, &Priority, "ss", &[], &[], 0, 0)?, 0);
+        assert_eq!(rt; answered(&rt, &Priority, "s", &[1], &[5; 2], 5, 2)?, Err(2));
+        assert_eq!(rt;
+            answered(&rt, &Priority, "s", &[1; 3], &[5; 2], 5, 2)?,
+            Err(2)
+        );
+        assert_eq!(rt;
+            answered(&rt, &Priority, "", &[1, 0], &[5; 2], 5, 2)?,
+            Err(5)
+        );
+        assert_eq!(rt;
+            answered(&rt, &Priority, "", &[9, 1], &[5; 2], 5, 2)?,
+            Err(5)
+        );
+        assert_eq!(rt;
+            answered(&rt, &Priority, "", &[8, 1], &[5; 2], 5, 2)?,
+            Ok(())
+        );
+        assert_eq!(rt; answered(&rt, &Priority, "ss", &[], &[], 0, 0)?, Ok(()));
         Ok(())
     }
 
@@ -138,7 +168,10 @@ mod tests {
     #[test]
     fn a_strangers_rule(rt: HostRuntime) -> Result<(), Fail> {
         let mut rule = Ballot::new(Vec::new(rt.alloc()));
-        assert_eq!(rt; answered(&rt, &rule, "tdsm", &[1, 2], &[5, 5], 5, 2)?, 0);
+        assert_eq!(rt;
+            answered(&rt, &rule, "tdsm", &[1, 2], &[5, 5], 5, 2)?,
+            Ok(())
+        );
         rule.vote(11)?;
         let mut out = [0; 2];
         let done = apply(b"d", &rule, &[1, 2], &[10, 6], 8, &mut out).is_ok();

@@ -9,7 +9,7 @@ use operators::classes::ClassOrder;
 use std::fmt;
 
 // The most letters that a form has.
-const MOST_LETTERS: usize = 6;
+pub const MOST_LETTERS: usize = 6;
 
 // A letter that is there, or nothing.
 fn letter_if(present: bool, letter: &'static str) -> &'static str
