@@ -1,5 +1,4 @@
 use Rattle.std.proofs.Common.{◌+◌, arith, rules}
-use Rattle.std.proofs.lemmas.List.{take_all}
 use Rattle.division.specs.AmountLaws.{total_more}
 use Rattle.operators.proofs.Sums.{total-take}
 use Rattle.operators.proofs.amounts.total_of.Goals as goal
@@ -12,6 +11,3 @@ overflow_add-sum c =
 
 pub loop-place-preserved : goal.loop-place-preserved
 loop-place-preserved c = search (rules, total_more)
-
-pub returns : goal.returns
-returns c = search (rules, take_all)

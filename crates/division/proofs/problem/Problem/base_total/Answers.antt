@@ -14,6 +14,3 @@ overflow_cast-result g c =
     let base = g.S.Share.base c.args.share.now in
     let all = ap (λ cs. total (map base cs)) (take_all c.loop-place._place claims (omega arith)) in
     omega (arith, all, total_base base (λ n. (g.S.Share.room c.args.share.now).low n) claims, c.args.self.now.sound.small)
-
-pub returns : goal.returns
-returns g c = search (rules, take_all)

@@ -3,7 +3,7 @@ use Rattle.division.specs.Amounts.{total, cut, plus}
 use Rattle.division.specs.Refusals.{due}
 use Rattle.operators.specs.Operators.{rights, minimal_rights}
 use Rattle.operators.specs.RightsLawful.{rights_fit}
-use Rattle.operators.proofs.Problems.{never_refused, asked_awards, answered, awarded}
+use Rattle.operators.proofs.Problems.{never_refused, asked_awards, awarded}
 use Rattle.operators.proofs.Rights.{Parted, parted, rights_first, rights_and_awards}
 use Rattle.operators.proofs.minimal_rights.MinimalRightsRule.divide.Given as given
 use Rattle.operators.proofs.minimal_rights.MinimalRightsRule.divide.Goals as goal
@@ -52,16 +52,14 @@ add_to-requires g c =
     let first = c.deref.ensures.0 in
     record { long = omega (arith, both.0, ap length again, ap length first); small = omega (arith, both.1, ap total again, ap total first) }
 
-pub returns : goal.returns
-returns g c =
-    let at = (goal.at.returns g c).After-divide in
+pub returns-clause-awards : goal.returns-clause-awards
+returns-clause-awards g c =
+    let at = (goal.at.returns-clause-awards g c).After-divide in
     let claims = c.args.claims.now in
     let estate = c.args.estate in
     let f = g.R.Rule.awards c.args.self.now.rule in
     let refusal = due claims estate (length c.args.out.now) in
     let none : refusal ≡ None = c.in_ok-problem.ensures.result.2.none in
     let again : c.deref-3.result.now ≡ c.deref.result.now = c.deref-3.ensures.0 ∙ sym c.deref.ensures.0 in
-    record {
-      result = answered refusal none;
-      awards = awarded refusal none (minimal_rights f claims estate) c.args.out.now c.add_to.new.awards (rights_first (asked g at) f _ _ (given_rest g at) (c.add_to.ensures.awards ∙ ap (λ xs. plus xs c.divide.new.out) again));
-    }
+    awarded refusal none (minimal_rights f claims estate) c.args.out.now c.add_to.new.awards
+    (rights_first (asked g at) f _ _ (given_rest g at) (c.add_to.ensures.awards ∙ ap (λ xs. plus xs c.divide.new.out) again))

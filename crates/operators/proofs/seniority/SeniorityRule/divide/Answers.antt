@@ -3,7 +3,7 @@ use Rattle.division.specs.Refusals.{due}
 use Rattle.operators.specs.Operators.{served}
 use Rattle.operators.specs.Classes.{order_of}
 use Rattle.operators.specs.ClassListLaws.{length-order}
-use Rattle.operators.proofs.Problems.{answered, awarded}
+use Rattle.operators.proofs.Problems.{awarded}
 use Rattle.operators.proofs.Turns.{so_far_none, so_far_more, so_far_all, same_left}
 use Rattle.operators.proofs.seniority.SeniorityRule.divide.Goals as goal
 
@@ -25,8 +25,8 @@ loop-class-preserved g c =
     so_far_more (order_of self.order) self.classes (g.R.Rule.awards self.rule) (g.R.Rule.lawful self.rule) problem.claims.now problem.estate problem.sound place c.loop-class.out c.loop-class.left c.loop-class.invariant
     (omega (arith, length-order self.order)) class is _ _ (same_left _ _ _ c.in_ok-left.was c.serve.ensures.result) c.serve.ensures.awards
 
-pub returns : goal.returns
-returns g c =
+pub returns-clause-awards : goal.returns-clause-awards
+returns-clause-awards g c =
     let self = c.args.self.now in
     let claims = c.args.claims.now in
     let estate = c.args.estate in
@@ -37,8 +37,5 @@ returns g c =
     let all = so_far_all order self.classes f (g.R.Rule.lawful self.rule) problem.claims.now problem.estate problem.sound c.loop-class.class-index c.loop-class.out c.loop-class.left c.loop-class.invariant (omega (arith, length-order self.order)) in
     let refusal = due claims estate (length c.args.out.now) in
     let none : refusal ≡ None = checked.2.none in
-    record {
-      result = answered refusal none;
-      awards = awarded refusal none (served order self.classes f claims estate) c.args.out.now c.loop-class.out
-          (all ∙ ap (λ cs. served order self.classes f cs problem.estate) checked.0 ∙ ap (served order self.classes f claims) checked.1);
-    }
+    awarded refusal none (served order self.classes f claims estate) c.args.out.now c.loop-class.out
+    (all ∙ ap (λ cs. served order self.classes f cs problem.estate) checked.0 ∙ ap (served order self.classes f claims) checked.1)
