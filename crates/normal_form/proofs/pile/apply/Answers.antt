@@ -16,6 +16,9 @@ returns-in_err-asked-clause-smallest g c = pile_smallest (all_letters c.args.let
 pub returns-in_err-asked-clause-lawful : goal.returns-in_err-asked-clause-lawful
 returns-in_err-asked-clause-lawful g c = applied_lawful
 
+pub returns-in_err-form-clause-smallest : goal.returns-in_err-form-clause-smallest
+returns-in_err-form-clause-smallest g c = pile_smallest (all_letters c.args.letters.now) c.args.classes.now c.args.claims.now c.args.estate (length c.args.out.now)
+
 pub returns-in_err-form-clause-lawful : goal.returns-in_err-form-clause-lawful
 returns-in_err-form-clause-lawful g c = applied_lawful
 
