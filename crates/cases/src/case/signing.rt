@@ -25,6 +25,7 @@ impl Case {
         }
     }
 
+    // The same, where a list has so much room for the lines that a sign writes.
     fn check_sign(&self, sheet: Sheet, room: usize) -> Result<Sheet, (Sheet, SheetRefusal)>
         ensures result { result ≡ answer_with (sign_due (view self.now) sheet room) sheet sheet }
     {
