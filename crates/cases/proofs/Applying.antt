@@ -1,8 +1,9 @@
 -- The tests of every call stand in the order of their numbers, and each says in bits what its refusal says in words; so
 -- each call answers the smallest refusal that applies. Assumes nothing.
-use Rattle.std.proofs.Common.{◌≡◌, ℕ, zero, suc, ◌+◌, ◌≤◌, Bool, true, not, eqb, ltb, leb, ◌⊎◌, List, [], ◌∷◌, length, is_some, Some, None, Option, refl, ap, ◌∙◌, inl, inr, ⊎_elim, arith}
+use Rattle.std.proofs.Common.{◌≡◌, ℕ, zero, suc, ◌+◌, ◌≤◌, Bool, true, not, eqb, ◌⊎◌, List, [], ◌∷◌, length, is_some, Some, None, Option, refl, ap, ◌∙◌, inl, inr, ⊎_elim, arith}
 use Rattle.std.specs.List.{ContainsAt as Has}
-use Rattle.std.proofs.lemmas.Bool.{both_ways, not-true, not_from_false, cases_Bool, ltb-true, lt-ltb, leb-true, le-leb, eqb-true, eq-eqb, and_parts, and_from, or_cases, or_left, or_right, false≢true}
+use Rattle.std.proofs.lemmas.Bool.{both_ways, not-true, not_from_false, cases_Bool, ltb-true, leb-true, eqb-true, eq-eqb, and_parts, or_cases, or_left, or_right, false≢true}
+use Rattle.std.proofs.lemmas.Bool.Decides.{nat_tests}
 use Rattle.division.specs.Amounts.{total}
 use Rattle.division.specs.Problem.{most_claims, most_total}
 use Rattle.division.specs.Refusals.{Stands}
@@ -19,7 +20,7 @@ use Rattle.cases.specs.declared.refusal.CaseRefusal.{CaseRefusal}
 use Rattle.cases.specs.declared.refusal.CaseRefusal.TheVariants.{TotalAboveLimit, EstateAboveTotal, ClassOutsideRange, Letter, SheetOut, ReservedNumber, NumberTaken, NumberNotOnTable, TableFull, NotWorked}
 use Rattle.cases.specs.declared.refusal.SheetRefusal.{SheetRefusal}
 use Rattle.cases.specs.declared.refusal.SheetRefusal.TheVariants.{OtherCase, ListTooShort}
-use Rattle.cases.specs.Rows.{estate_number, owner_number, is_reserved_number, amounts, on_table, with_amount, lines}
+use Rattle.cases.specs.Rows.{is_reserved_number, amounts, on_table, with_amount, lines}
 use Rattle.cases.specs.Cases.{View, estate_of, is_its_sheet, case_refusal_number, sheet_refusal_number, admit_tests, amend_tests, fund_tests, press_tests, divide_tests, draw_tests, sheet_tests, sign_tests}
 use Rattle.cases.specs.Applying.{OnTable, Reserved, AdmitApplies, AmendApplies, FundApplies, PressApplies, DivideApplies, DrawApplies, SheetApplies, SignApplies, SmallestInWords}
 
@@ -49,20 +50,19 @@ so_not : {A : Type 0} (b : Bool) → (b ≡ true → A) → (A → ⊥) → not 
 so_not b so never = ⊎_elim (λ holds. absurd (never (so holds))) (not_from_false b) (cases_Bool b)
 
 class_is : (k : ℕ) → is_class_number k ≡ true → (1 ≤ k) × (k ≤ last_class)
-class_is k e = let p = and_parts (leb 1 k) (leb k last_class) e in (leb-true 1 k p.0, leb-true k last_class p.1)
+class_is k e = (grind (arith, nat_tests), grind (arith, nat_tests))
 
 is_a_class : (k : ℕ) → (1 ≤ k) × (k ≤ last_class) → is_class_number k ≡ true
-is_a_class k h = and_from (leb 1 k) (leb k last_class) (le-leb 1 k h.0) (le-leb k last_class h.1)
+is_a_class k h = grind (arith, nat_tests)
 
 reserved_is : (n : ℕ) → is_reserved_number n ≡ true → Reserved n
-reserved_is n e = ⊎_elim (λ a. inl (eqb-true n estate_number a)) (λ b. inr (eqb-true n owner_number b)) (or_cases (eqb n estate_number) (eqb n owner_number) e)
+reserved_is n e = grind (arith, nat_tests)
 
 is_a_reserved : (n : ℕ) → Reserved n → is_reserved_number n ≡ true
-is_a_reserved n (inl e) = or_left (eqb n estate_number) (eqb n owner_number) (eq-eqb n estate_number e)
-is_a_reserved n (inr e) = or_right (eqb n estate_number) (eqb n owner_number) (eq-eqb n owner_number e)
+is_a_reserved n h = grind (arith, nat_tests)
 
 on_table_is : (n : ℕ) (rows : List Row) → on_table n rows ≡ true → OnTable n rows
-on_table_is n [] e = absurd (false≢true e)
+on_table_is n [] e = (cc)
 on_table_is n (row ∷ rows) e =
     ⊎_elim (λ here. (row, has_first row rows, eqb-true row.number n here)) (λ later. let r = on_table_is n rows later in (r.0, has_later row r.0 rows r.1, r.2)) (or_cases (eqb row.number n) (on_table n rows) e)
 
@@ -78,11 +78,11 @@ Unknown letters = (b : ℕ) × Has letters b × (letter_of b ≡ None)
 
 none_not_some : {X : Type 0} (o : Option X) → is_some o ≡ true → o ≡ None → ⊥
 none_not_some None e is = false≢true e
-none_not_some (Some x) e is = let z : ◌≡◌ {A = ℕ} 0 1 = cc in omega arith
+none_not_some (Some x) e is = (cc)
 
 ordered_known : (o : Option Operator) (os : Option (List Operator)) → is_some (before_others o os) ≡ true → (is_some o ≡ true) × (is_some os ≡ true)
-ordered_known None os e = absurd (false≢true e)
-ordered_known (Some o) None e = absurd (false≢true e)
+ordered_known None os e = (cc)
+ordered_known (Some o) None e = (cc)
 ordered_known (Some o) (Some os) e = (refl, refl)
 
 known_none : (letters : List ℕ) → all_letters letters ≡ true → Unknown letters → ⊥
@@ -94,22 +94,22 @@ known_none (b ∷ bs) e u =
 unknown_first : (b : ℕ) (bs : List ℕ) (o : Option Operator) (os : Option (List Operator)) → letter_of b ≡ o → letters_in bs ≡ os → (not (all_letters bs) ≡ true → Unknown bs) → not (is_some (before_others o os)) ≡ true → Unknown (b ∷ bs)
 unknown_first b bs None os here later more n = (b, has_first b bs, here)
 unknown_first b bs (Some o) None here later more n = let u = more (ap (λ x. not (is_some x)) later) in (u.0, has_later b u.0 bs u.1, u.2)
-unknown_first b bs (Some o) (Some os) here later more n = absurd (false≢true n)
+unknown_first b bs (Some o) (Some os) here later more n = (cc)
 
 unknown_some : (letters : List ℕ) → not (all_letters letters) ≡ true → Unknown letters
-unknown_some [] e = absurd (false≢true e)
+unknown_some [] e = (cc)
 unknown_some (b ∷ bs) e = unknown_first b bs (letter_of b) (letters_in bs) refl refl (unknown_some bs) e
 
 its_is : (v : View) (sheet : Sheet) → is_its_sheet v sheet ≡ true → (v.out ≡ true) × (sheet.number ≡ v.number)
-its_is v sheet e = let p = and_parts v.out (eqb sheet.number v.number) e in (p.0, eqb-true sheet.number v.number p.1)
+its_is v sheet e = (grind (arith, nat_tests), grind (arith, nat_tests))
 
 is_its : (v : View) (sheet : Sheet) → (v.out ≡ true) × (sheet.number ≡ v.number) → is_its_sheet v sheet ≡ true
-is_its v sheet h = and_from v.out (eqb sheet.number v.number) h.0 (eq-eqb sheet.number v.number h.1)
+is_its v sheet h = grind (arith, nat_tests)
 
 -- each refusal that applies has a test that holds -------------------------------------------------------------------------
 
 admit_stands : (v : View) (number amount class : ℕ) (e : CaseRefusal) → AdmitApplies v number amount class e → Stands (admit_tests v number amount class) e
-admit_stands v number amount class TotalAboveLimit h = inl (lt-ltb most_total (total (amounts v.rows) + amount) h, refl)
+admit_stands v number amount class TotalAboveLimit h = inl (grind (arith, nat_tests), refl)
 admit_stands v number amount class EstateAboveTotal h = absurd h
 admit_stands v number amount class ClassOutsideRange h = inr (inl (so_not (is_class_number class) (class_is class) h, refl))
 admit_stands v number amount class (Letter e) h = absurd h
@@ -117,12 +117,13 @@ admit_stands v number amount class SheetOut h = inr (inr (inl (h, refl)))
 admit_stands v number amount class ReservedNumber h = inr (inr (inr (inl (is_a_reserved number h, refl))))
 admit_stands v number amount class NumberTaken h = inr (inr (inr (inr (inl (is_on_table number v.rows h, refl)))))
 admit_stands v number amount class NumberNotOnTable h = absurd h
-admit_stands v number amount class TableFull h = inr (inr (inr (inr (inr (inl (le-leb most_claims (length v.rows) h, refl))))))
+admit_stands v number amount class TableFull h = inr (inr (inr (inr (inr (inl (grind (arith, nat_tests), refl))))))
 admit_stands v number amount class NotWorked h = absurd h
 
 amend_stands : (v : View) (number amount : ℕ) (e : CaseRefusal) → AmendApplies v number amount e → Stands (amend_tests v number amount) e
 amend_stands v number amount TotalAboveLimit h =
-    inl (and_from (on_table number v.rows) (ltb most_total (total (amounts (with_amount number amount v.rows)))) (is_on_table number v.rows h.0) (lt-ltb most_total (total (amounts (with_amount number amount v.rows))) h.1), refl)
+    let on = is_on_table number v.rows h.0 in
+    inl (grind (arith, nat_tests), refl)
 amend_stands v number amount EstateAboveTotal h = absurd h
 amend_stands v number amount ClassOutsideRange h = absurd h
 amend_stands v number amount (Letter e) h = absurd h
@@ -134,7 +135,7 @@ amend_stands v number amount TableFull h = absurd h
 amend_stands v number amount NotWorked h = absurd h
 
 fund_stands : (v : View) (amount : ℕ) (e : CaseRefusal) → FundApplies v amount e → Stands (fund_tests v amount) e
-fund_stands v amount TotalAboveLimit h = inl (lt-ltb most_total amount h, refl)
+fund_stands v amount TotalAboveLimit h = inl (grind (arith, nat_tests), refl)
 fund_stands v amount EstateAboveTotal h = absurd h
 fund_stands v amount ClassOutsideRange h = absurd h
 fund_stands v amount (Letter e) h = absurd h
@@ -159,7 +160,7 @@ press_stands v letters NotWorked h = absurd h
 
 divide_stands : (v : View) (e : CaseRefusal) → DivideApplies v e → Stands (divide_tests v) e
 divide_stands v TotalAboveLimit h = absurd h
-divide_stands v EstateAboveTotal h = inl (lt-ltb (total (amounts v.rows)) (estate_of v) h, refl)
+divide_stands v EstateAboveTotal h = inl (grind (arith, nat_tests), refl)
 divide_stands v ClassOutsideRange h = absurd h
 divide_stands v (Letter e) h = absurd h
 divide_stands v SheetOut h = inr (inl (h, refl))
@@ -187,7 +188,7 @@ sheet_stands v sheet ListTooShort h = absurd h
 
 sign_stands : (v : View) (sheet : Sheet) (room : ℕ) (e : SheetRefusal) → SignApplies v sheet room e → Stands (sign_tests v sheet room) e
 sign_stands v sheet room OtherCase h = inl (so_not (is_its_sheet v sheet) (its_is v sheet) h, refl)
-sign_stands v sheet room ListTooShort h = inr (inl (lt-ltb room (length (lines v.rows)) h, refl))
+sign_stands v sheet room ListTooShort h = inr (inl (grind (arith, nat_tests), refl))
 
 -- and each test that holds says that its refusal applies ------------------------------------------------------------------
 

@@ -1,5 +1,5 @@
 -- A case that divides hands on a problem that no rule refuses. Assumes nothing.
-use Rattle.std.proofs.Common.{◌≡◌, ℕ, ◌-◌, ◌≤◌, true, List, length, take, None, ap, ◌∙◌, arith}
+use Rattle.std.proofs.Common.{◌≡◌, ℕ, ◌≤◌, true, List, length, None, arith}
 use lib.ListN.{length-map}
 use Rattle.std.proofs.lemmas.Bool.Decides.{nat_tests}
 use Rattle.division.specs.Amounts.{total}
@@ -23,7 +23,3 @@ never_refused v room few same small classed none =
     let claims_long = length-map rows (λ row. row.amount) in
     let classes_long = length-map rows (λ row. row.class) in
     passes (classes_of rows) (amounts rows) (estate_of v) room (omega arith) (omega arith) (omega arith) small (covers v none) (tested_if_classed (classes_of rows) classed)
-
--- the front of a scratch list, as it is handed on
-pub front : {X : Type 0} (xs ys : List X) (n m : ℕ) → n ≡ m → take m xs ≡ ys → take (n - 0) xs ≡ ys
-front xs ys n m is e = let same : n - 0 ≡ m = omega arith in ap (λ k. take k xs) same ∙ e

@@ -1,13 +1,10 @@
 -- The run with two signings is a past of a case, computed call by call. Assumes nothing.
-use Rattle.std.proofs.Common.{◌≡◌, ℕ, pos, refl, arith}
+use Rattle.std.proofs.Common.{refl, arith}
+use Rattle.std.proofs.lemmas.Int.{ints}
 use Rattle.division.specs.EqualAwardsLawful.{equal_awards_lawful}
 use Rattle.division.specs.ProportionLawful.{proportion_lawful}
 use Rattle.cases.specs.History.{made, moved}
 use Rattle.cases.specs.Example.{ExampleRun}
-
--- a positive sum is not zero
-apart : (a b : ℕ) → (a ≡ b → ⊥) → pos a ≡ pos b → ⊥
-apart a b other e = other (cc)
 
 pub example_run : ExampleRun
 example_run = record {
@@ -30,6 +27,6 @@ example_run = record {
   first_sum = refl;
   second_sum = refl;
   estate_sum = refl;
-  first_some = apart 50 0 (λ e. omega arith);
-  second_some = apart 300 0 (λ e. omega arith);
+  first_some = λ e. omega (arith, ints);
+  second_some = λ e. omega (arith, ints);
 }

@@ -1,9 +1,9 @@
 -- The law over every history of a case: its postings are settled and balanced, and every call has a step. Assumes nothing.
-use Rattle.std.proofs.Common.{◌≡◌, ℕ, List, [], ◌∷◌, length, pos, ◌+ℤ◌, None, Ok, Err, refl, ap, ◌∙◌, subst, arith}
+use Rattle.std.proofs.Common.{◌≡◌, ℕ, List, [], ◌∷◌, length, pos, ◌+ℤ◌, None, Ok, Err, sym, refl, ap, ◌∙◌, subst, arith}
 use Rattle.std.proofs.lemmas.Int.{ints}
 use Rattle.cases.specs.declared.sheet.Sheet.{Sheet}
 use Rattle.cases.specs.Rows.{estate_number, balance, lines}
-use Rattle.cases.specs.Cases.{View, sign_due}
+use Rattle.cases.specs.Cases.{View, new_case, sign_due}
 use Rattle.cases.specs.Ledger.{Event, Admit, Amend, Fund, Press, Divide, Draw, Tally, Sign, Return, Ledger, fed, ledger, under, written, Settled, Balanced}
 use Rattle.cases.specs.History.{Step, Past, made, moved, Continues, AlwaysSettled, AlwaysBalanced, StepsFromAll}
 use Rattle.cases.proofs.Dues.{by_sheet_due}
@@ -81,6 +81,10 @@ pub continues : (e : Event) (v w : View) → Step e v w → Continues e v w
 continues e v w step history past =
     let longer = moved past step in
     (longer, always_settled (e ∷ history) w longer)
+
+-- a case that is as it is made has no past yet
+pub no_past : (number : ℕ) (v : View) → v ≡ new_case number → Past [] v
+no_past number v is = subst (Past []) (sym is) (made number)
 
 pub steps_from_all : StepsFromAll
 steps_from_all = record {

@@ -4,7 +4,6 @@ pub mod Searches
 pub mod Ascents
 pub mod Applying
 pub mod Divisions
-pub mod Pressings
 pub mod Dues
 pub mod Tying
 pub mod Postings

@@ -1,7 +1,8 @@
 -- What the postings of a sign add up to: under each number, to the estate and to all others. Assumes nothing.
 use Rattle.std.proofs.Common.{◌≡◌, ℕ, true, false, cond, eqb, List, [], ◌∷◌, map, pos, ◌+ℤ◌, ◌-ℤ◌, sym, refl, subst, inl, inr, arith}
 use Rattle.std.proofs.lemmas.Int.{ints}
-use Rattle.std.proofs.lemmas.Bool.{cases_Bool, or_parts, eqb-true, ne_eqb}
+use Rattle.std.proofs.lemmas.Bool.Decides.{nat_tests}
+use Rattle.std.proofs.lemmas.Bool.{cases_Bool, eqb-true, ne_eqb}
 use Rattle.cases.specs.declared.row.Row.{Row}
 use Rattle.cases.specs.declared.row.Posting.{Posting}
 use Rattle.cases.specs.Rows.{estate_number, balance, row_posting, lines}
@@ -11,9 +12,7 @@ use Rattle.cases.proofs.Tying.{entry_of, listed, Distinct, found, paid, awarded}
 -- nothing is posted under a number that no row bears
 under_none : (n : ℕ) (rows : List Row) → listed n (map entry_of rows) ≡ false → under n (map row_posting rows) ≡ pos 0
 under_none n [] h = refl
-under_none n (row ∷ rows) h =
-    let both = or_parts (eqb row.number n) (listed n (map entry_of rows)) h in
-    rw both.0 (under_none n rows both.1)
+under_none n (row ∷ rows) h = let rest = under_none n rows in grind (arith, nat_tests)
 
 -- under a claimant's number stands his award less what was paid to him
 pub under_rows : (n : ℕ) (rows : List Row) → Distinct (map entry_of rows) → under n (map row_posting rows) ≡ pos (found awarded n rows) -ℤ pos (found paid n rows)

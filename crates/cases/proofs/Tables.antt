@@ -1,27 +1,14 @@
 -- The loops over a table's rows, and what the table's calls keep of its rows. Assumes nothing.
-use Rattle.std.proofs.Common.{◌≡◌, ℕ, zero, suc, ◌+◌, ◌<◌, true, leb, List, [], ◌∷◌, ◌++◌, map, length, get_or, take, set, sym, refl, ap, ◌∙◌, add-one, arith}
-use Rattle.std.proofs.lemmas.List.{take_more_set, map_more, map-set, set-get_or}
+use Rattle.std.proofs.Common.{◌≡◌, ℕ, zero, suc, ◌+◌, true, leb, List, [], ◌∷◌, ◌++◌, map, length, get_or, set, sum, sym, refl, ap, ◌∙◌, arith}
+use Rattle.std.specs.List.{AllZip}
+use Rattle.std.proofs.lemmas.List.{map-set, set-get_or}
+use Rattle.std.proofs.lemmas.List.Recursion.{is_sum_by}
 use Rattle.std.proofs.lemmas.Bool.{and_parts, leb-true}
 use Rattle.division.specs.Amounts.{total}
 use Rattle.operators.specs.Operators.{Classed, last_class}
 use Rattle.operators.specs.Classes.{is_class_number}
 use Rattle.cases.specs.declared.row.Row.{Row}
 use Rattle.cases.specs.Rows.{amounts, classes_of, set_amount, with_awards, settled}
-
-module _ {X : Type 0} (f : X → ℕ) where
-  total_map_suc : (xs : List X) (i : ℕ) (d : X) → i < length xs → total (map f (take (suc i) xs)) ≡ total (map f (take i xs)) + f (get_or xs i d)
-  total_map_suc [] i d h = absurd (omega arith)
-  total_map_suc (x ∷ xs) zero d h = omega arith
-  total_map_suc (x ∷ xs) (suc i) d h = omega (arith, total_map_suc xs i d (omega arith))
-
-  -- one row more in a sum
-  pub total_map_more : (xs : List X) (i : ℕ) (d : X) → i < length xs → total (map f (take (i + 1) xs)) ≡ total (map f (take i xs)) + f (get_or xs i d)
-  total_map_more xs i d h = rw (add-one i) (total_map_suc xs i d h)
-
-  -- one place more of a list written from the rows
-  pub front_more : (xs : List X) (out : List ℕ) (i y : ℕ) (d : X) → i < length xs → i < length out → y ≡ f (get_or xs i d) → take i out ≡ map f (take i xs) → take (i + 1) (set out i y) ≡ map f (take (i + 1) xs)
-  front_more xs out i y d inside room is done =
-      take_more_set out i y room ∙ ap (λ l. l ++ (y ∷ [])) done ∙ ap (λ v. map f (take i xs) ++ (v ∷ [])) is ∙ sym (map_more f xs i d inside)
 
 pub total_push : (xs : List ℕ) (y : ℕ) → total (xs ++ y ∷ []) ≡ total xs + y
 total_push [] y = omega arith
@@ -65,3 +52,14 @@ amounts_settled (row ∷ rows) = ap (λ l. row.amount ∷ l) (amounts_settled ro
 pub classes_settled : (rows : List Row) → classes_of (map settled rows) ≡ classes_of rows
 classes_settled [] = refl
 classes_settled (row ∷ rows) = ap (λ l. row.class ∷ l) (classes_settled rows)
+
+-- what a chain adds up is the total
+pub sum_is_total : (xs : List ℕ) → sum xs ≡ total xs
+sum_is_total xs = sym (is_sum_by total (λ x. x) refl (λ _ _. refl) xs)
+
+-- a list made value by value is a map
+pub made_is_map : {A B : Type 0} (v : A → B) (R : A → B → Type 0) (xs : List A) (ys : List B) → AllZip R xs ys → ((x : A) (y : B) → R x y → y ≡ v x) → ys ≡ map v xs
+made_is_map v R [] [] h each = refl
+made_is_map v R [] (y ∷ ys) h each = absurd h
+made_is_map v R (x ∷ xs) [] h each = absurd h
+made_is_map v R (x ∷ xs) (y ∷ ys) h each = cc (each x y h.0, made_is_map v R xs ys h.1 each)

@@ -1,8 +1,9 @@
 -- What ties a case to the plain ledger of its past, and that every call keeps it. Assumes nothing.
-use Rattle.std.proofs.Common.{◌≡◌, ℕ, suc, ◌+◌, ◌<◌, ◌≤◌, Bool, true, false, cond, ◌&&◌, ◌||◌, eqb, ltb, leb, List, [], ◌∷◌, ◌++◌, map, length, None, Ok, sym, refl, ap, ◌∙◌, subst, arith}
+use Rattle.std.proofs.Common.{◌≡◌, ℕ, ◌+◌, ◌<◌, ◌≤◌, Bool, true, false, cond, ◌||◌, eqb, List, [], ◌∷◌, ◌++◌, map, length, None, Ok, sym, refl, ap, ◌∙◌, subst, arith}
 use lib.ListN.{length-map}
 use Rattle.std.proofs.lemmas.List.{map_push, length_push}
-use Rattle.std.proofs.lemmas.Bool.{and_parts, and_from, or_parts, or_from, not-false, both_ways, ltb-false, leb-false, eqb-false, ne_eqb}
+use Rattle.std.proofs.lemmas.Bool.{or_parts, eqb-false, ne_eqb}
+use Rattle.std.proofs.lemmas.Bool.Decides.{nat_tests}
 use Rattle.division.specs.Amounts.{total}
 use Rattle.division.specs.Problem.{Meaning, Lawful, Sound, most_claims, most_total}
 use Rattle.operators.specs.Operators.{Classed}
@@ -17,11 +18,11 @@ use Rattle.normal_form.proofs.Theorems.{form_says_all}
 use Rattle.cases.specs.declared.row.Row.{Row}
 use Rattle.cases.specs.declared.row.Posting.{Posting}
 use Rattle.cases.specs.declared.sheet.Sheet.{Sheet}
-use Rattle.cases.specs.Rows.{amounts, classes_of, on_table, new_row, set_amount, with_amount, with_awards, settled, lines}
-use Rattle.cases.specs.Cases.{View, new_case, admit_due, admitted, amend_due, amended, fund_due, funded, press_due, letters_pressed, divide_due, divided, awards_by, draw_due, sheet_of, drawn, is_its_sheet, sheet_due, sign_due, signed, returned}
+use Rattle.cases.specs.Rows.{amounts, classes_of, on_table, new_row, with_amount, with_awards, settled, lines}
+use Rattle.cases.specs.Cases.{View, new_case, admit_due, admitted, amend_due, amended, fund_due, funded, press_due, letters_pressed, divide_due, divided, awards_by, draw_due, sheet_of, drawn, sheet_due, sign_due, signed, returned}
 use Rattle.cases.specs.Ledger.{Event, Admit, Amend, Fund, Press, Divide, Draw, Tally, Sign, Return, Entry, Ledger, empty_ledger, award_under, re_entered, ledger_awards, fed, ledger}
 use Rattle.cases.specs.History.{Step, Past, made, moved}
-use Rattle.cases.proofs.Dues.{by_due, by_sheet_due, none_due}
+use Rattle.cases.proofs.Dues.{by_due, by_sheet_due}
 
 -- the entry of a row
 abbrev pub entry_of : Row → Entry
@@ -71,11 +72,7 @@ listed_is n (row ∷ rows) = ap (λ b. eqb row.number n || b) (listed_is n rows)
 
 entries_amended : (n amount : ℕ) (rows : List Row) → map entry_of (with_amount n amount rows) ≡ re_entered n amount (map entry_of rows)
 entries_amended n amount [] = refl
-entries_amended n amount (row ∷ rows) =
-    elim (eqb row.number n) as (λ b. map entry_of (cond b (set_amount amount row ∷ rows) (row ∷ with_amount n amount rows)) ≡ cond b (record { number = row.number; amount = amount; class = row.class } ∷ map entry_of rows) (entry_of row ∷ re_entered n amount (map entry_of rows))) [
-      | true ↦ refl
-      | false ↦ ap (λ es. entry_of row ∷ es) (entries_amended n amount rows)
-    ]
+entries_amended n amount (row ∷ rows) = let rest = entries_amended n amount rows in grind (arith, nat_tests)
 
 entries_awarded : (new : List ℕ) (rows : List Row) → map entry_of (with_awards new rows) ≡ map entry_of rows
 entries_awarded new [] = refl
@@ -89,16 +86,12 @@ entries_settled (row ∷ rows) = ap (λ es. entry_of row ∷ es) (entries_settle
 -- what rows say under a number ------------------------------------------------------------------------------------------
 
 paid_admitted : (n number amount class : ℕ) (rows : List Row) → found paid n (rows ++ new_row number amount class ∷ []) ≡ found paid n rows
-paid_admitted n number amount class [] = elim (eqb number n) as (λ b. ◌≡◌ {A = ℕ} (cond b 0 0) 0) [ true ↦ refl | false ↦ refl ]
+paid_admitted n number amount class [] = grind (arith, nat_tests)
 paid_admitted n number amount class (row ∷ rows) = ap (λ x. cond (eqb row.number n) row.paid x) (paid_admitted n number amount class rows)
 
 paid_amended : (n number amount : ℕ) (rows : List Row) → found paid n (with_amount number amount rows) ≡ found paid n rows
 paid_amended n number amount [] = refl
-paid_amended n number amount (row ∷ rows) =
-    elim (eqb row.number number) as (λ b. found paid n (cond b (set_amount amount row ∷ rows) (row ∷ with_amount number amount rows)) ≡ found paid n (row ∷ rows)) [
-      | true ↦ refl
-      | false ↦ ap (λ x. cond (eqb row.number n) row.paid x) (paid_amended n number amount rows)
-    ]
+paid_amended n number amount (row ∷ rows) = let rest = paid_amended n number amount rows in grind (arith, nat_tests)
 
 paid_awarded : (n : ℕ) (new : List ℕ) (rows : List Row) → found paid n (with_awards new rows) ≡ found paid n rows
 paid_awarded n new [] = refl
@@ -118,20 +111,16 @@ award_found n (a ∷ new) (row ∷ rows) e = ap (λ x. cond (eqb row.number n) a
 
 module _ (new : Entry) where
   classed_more : (entries : List Entry) → all_classed (map (λ (entry : Entry). entry.class) entries) ≡ true → is_class_number new.class ≡ true → all_classed (map (λ (entry : Entry). entry.class) (entries ++ new ∷ [])) ≡ true
-  classed_more [] h is = and_from (is_class_number new.class) true is refl
-  classed_more (entry ∷ entries) h is =
-      let both = and_parts (is_class_number entry.class) (all_classed (map (λ (e : Entry). e.class) entries)) h in
-      and_from (is_class_number entry.class) (all_classed (map (λ (e : Entry). e.class) (entries ++ new ∷ []))) both.0 (classed_more entries both.1 is)
+  classed_more [] h is = grind (arith, nat_tests)
+  classed_more (entry ∷ entries) h is = let rest = classed_more entries in grind (arith, nat_tests)
 
   total_more : (entries : List Entry) → total (map (λ (entry : Entry). entry.amount) (entries ++ new ∷ [])) ≡ total (map (λ (entry : Entry). entry.amount) entries) + new.amount
   total_more [] = omega arith
   total_more (entry ∷ entries) = omega (arith, total_more entries)
 
   not_listed_more : (n : ℕ) (entries : List Entry) → listed n entries ≡ false → eqb new.number n ≡ false → listed n (entries ++ new ∷ []) ≡ false
-  not_listed_more n [] h other = or_from (eqb new.number n) false other refl
-  not_listed_more n (entry ∷ entries) h other =
-      let both = or_parts (eqb entry.number n) (listed n entries) h in
-      or_from (eqb entry.number n) (listed n (entries ++ new ∷ [])) both.0 (not_listed_more n entries both.1 other)
+  not_listed_more n [] h other = grind (arith, nat_tests)
+  not_listed_more n (entry ∷ entries) h other = let rest = not_listed_more n entries in grind (arith, nat_tests)
 
   distinct_more : (entries : List Entry) → Distinct entries → listed new.number entries ≡ false → Distinct (entries ++ new ∷ [])
   distinct_more [] d h = (refl, tt)
@@ -153,27 +142,15 @@ module _ (new : Entry) where
 module _ (n amount : ℕ) where
   classes_re_entered : (entries : List Entry) → map (λ (entry : Entry). entry.class) (re_entered n amount entries) ≡ map (λ (entry : Entry). entry.class) entries
   classes_re_entered [] = refl
-  classes_re_entered (entry ∷ entries) =
-      elim (eqb entry.number n) as (λ b. map (λ (e : Entry). e.class) (cond b (record { number = entry.number; amount = amount; class = entry.class } ∷ entries) (entry ∷ re_entered n amount entries)) ≡ map (λ (e : Entry). e.class) (entry ∷ entries)) [
-        | true ↦ refl
-        | false ↦ ap (λ xs. entry.class ∷ xs) (classes_re_entered entries)
-      ]
+  classes_re_entered (entry ∷ entries) = let rest = classes_re_entered entries in grind (arith, nat_tests)
 
   length-re_entered : (entries : List Entry) → length (re_entered n amount entries) ≡ length entries
   length-re_entered [] = refl
-  length-re_entered (entry ∷ entries) =
-      elim (eqb entry.number n) as (λ b. length (cond b (record { number = entry.number; amount = amount; class = entry.class } ∷ entries) (entry ∷ re_entered n amount entries)) ≡ suc (length entries)) [
-        | true ↦ refl
-        | false ↦ ap suc (length-re_entered entries)
-      ]
+  length-re_entered (entry ∷ entries) = let rest = length-re_entered entries in grind (arith, nat_tests)
 
   listed_re_entered : (m : ℕ) (entries : List Entry) → listed m (re_entered n amount entries) ≡ listed m entries
   listed_re_entered m [] = refl
-  listed_re_entered m (entry ∷ entries) =
-      elim (eqb entry.number n) as (λ b. listed m (cond b (record { number = entry.number; amount = amount; class = entry.class } ∷ entries) (entry ∷ re_entered n amount entries)) ≡ listed m (entry ∷ entries)) [
-        | true ↦ refl
-        | false ↦ ap (λ b. eqb entry.number m || b) (listed_re_entered m entries)
-      ]
+  listed_re_entered m (entry ∷ entries) = let rest = listed_re_entered m entries in grind (arith, nat_tests)
 
   distinct_re_entered : (entries : List Entry) → Distinct entries → Distinct (re_entered n amount entries)
   distinct_re_entered [] d = tt
@@ -221,10 +198,6 @@ tied_new number = record {
   worked_is = λ e n. refl;
 }
 
--- no mark stands where it was taken away
-unmarked : {P : Type 0} → false ≡ true → P
-unmarked e = absurd (both_ways false refl e)
-
 module _ (l : Ledger) (v : View) (t : Tied l v) where
   amounts_tied : map (λ (entry : Entry). entry.amount) l.entries ≡ amounts v.rows
   amounts_tied = ap (map (λ (entry : Entry). entry.amount)) t.entries ∙ amounts_are v.rows
@@ -237,13 +210,6 @@ module _ (l : Ledger) (v : View) (t : Tied l v) where
 
   listed_tied : (n : ℕ) → listed n l.entries ≡ on_table n v.rows
   listed_tied n = ap (listed n) t.entries ∙ listed_is n v.rows
-
-  -- what the tests of the table say of the entries
-  room_tied : leb most_claims (length v.rows) ≡ false → length l.entries < most_claims
-  room_tied passes = omega (arith, length_tied, leb-false most_claims (length v.rows) passes)
-
-  small_tied : (amount : ℕ) → ltb most_total (total (amounts v.rows) + amount) ≡ false → total (map (λ (entry : Entry). entry.amount) l.entries) + amount ≤ most_total
-  small_tied amount passes = omega (arith, ap total amounts_tied, ltb-false most_total (total (amounts v.rows) + amount) passes)
 
   classed_tied : Classed (classes_of v.rows)
   classed_tied = classed_if_tested (classes_of v.rows) (ap all_classed (sym classes_tied) ∙ t.kept.classed)
@@ -273,80 +239,67 @@ module _ (l : Ledger) (v : View) (t : Tied l v) where
 
   pub tied_admit : (number amount class : ℕ) → admit_due v number amount class ≡ None → Tied (fed (Admit number amount class (Ok tt)) l) (admitted v number amount class)
   tied_admit number amount class none =
-      let total-passes = none_due _ _ _ none in
-      let class_passes = none_due _ _ _ total-passes.1 in
-      let out_passes = none_due _ _ _ class_passes.1 in
-      let number_passes = none_due _ _ _ out_passes.1 in
-      let table_passes = none_due _ _ _ number_passes.1 in
-      let room_passes = none_due _ _ _ table_passes.1 in
+      let is_class : is_class_number class ≡ true = grind (arith, nat_tests) in
+      let room : length v.rows < most_claims = grind (arith, nat_tests) in
+      let small : total (amounts v.rows) + amount ≤ most_total = grind (arith, nat_tests) in
+      let other : on_table number v.rows ≡ false = grind (arith, nat_tests) in
+      let in_hand : v.out ≡ false = grind (arith, nat_tests) in
       let new : Entry = record { number = number; amount = amount; class = class } in
       record {
         entries = ap (λ es. es ++ new ∷ []) t.entries ∙ sym (map_push entry_of v.rows (new_row number amount class));
-        kept = kept_more new l.entries t.kept
-            (not-false (is_class_number class) class_passes.0)
-            (room_tied room_passes.0)
-            (small_tied amount total-passes.0)
-            (listed_tied number ∙ table_passes.0);
+        kept = kept_more new l.entries t.kept is_class (omega (arith, length_tied)) (omega (arith, ap total amounts_tied)) (listed_tied number ∙ other);
         fund = t.fund;
         form = t.form;
-        out_marked = λ out. absurd (both_ways v.out out_passes.0 out);
+        out_marked = λ out. cc;
         paid_is = λ n. t.paid_is n ∙ sym (paid_admitted n number amount class v.rows);
-        worked_is = λ e. unmarked e;
+        worked_is = λ e. cc;
       }
 
   pub tied_amend : (number amount : ℕ) → amend_due v number amount ≡ None → Tied (fed (Amend number amount (Ok tt)) l) (amended v number amount)
   tied_amend number amount none =
-      let total-passes = none_due _ _ _ none in
-      let out_passes = none_due _ _ _ total-passes.1 in
-      let number_passes = none_due _ _ _ out_passes.1 in
-      let table_passes = none_due _ _ _ number_passes.1 in
-      let on = not-false (on_table number v.rows) table_passes.0 in
       let rows = with_amount number amount v.rows in
-      let small : total (amounts rows) ≤ most_total =
-      ltb-false most_total (total (amounts rows)) (sym (ap (λ b. b && ltb most_total (total (amounts rows))) on) ∙ total-passes.0) in
+      let small : total (amounts rows) ≤ most_total = grind (arith, nat_tests) in
+      let in_hand : v.out ≡ false = grind (arith, nat_tests) in
       let same : re_entered number amount l.entries ≡ map entry_of rows = ap (re_entered number amount) t.entries ∙ sym (entries_amended number amount v.rows) in
       record {
         entries = same;
         kept = kept_re_entered number amount l.entries t.kept (omega (arith, ap (λ es. total (map (λ (entry : Entry). entry.amount) es)) same, ap total (amounts_are rows)));
         fund = t.fund;
         form = t.form;
-        out_marked = λ out. absurd (both_ways v.out out_passes.0 out);
+        out_marked = λ out. cc;
         paid_is = λ n. t.paid_is n ∙ sym (paid_amended n number amount v.rows);
-        worked_is = λ e. unmarked e;
+        worked_is = λ e. cc;
       }
 
   pub tied_fund : (amount : ℕ) → fund_due v amount ≡ None → Tied (fed (Fund amount (Ok tt)) l) (funded v amount)
   tied_fund amount none =
-      let total-passes = none_due _ _ _ none in
-      let out_passes = none_due _ _ _ total-passes.1 in
+      let in_hand : v.out ≡ false = grind (arith, nat_tests) in
       record {
         entries = t.entries;
         kept = t.kept;
         fund = refl;
         form = t.form;
-        out_marked = λ out. absurd (both_ways v.out out_passes.0 out);
+        out_marked = λ out. cc;
         paid_is = t.paid_is;
-        worked_is = λ e. unmarked e;
+        worked_is = λ e. cc;
       }
 
   pub tied_press : (letters : List ℕ) → press_due v letters ≡ None → Tied (fed (Press letters (Ok tt)) l) (letters_pressed v letters)
   tied_press letters none =
-      let letters_pass = none_due _ _ _ none in
-      let out_passes = none_due _ _ _ letters_pass.1 in
+      let in_hand : v.out ≡ false = grind (arith, nat_tests) in
       record {
         entries = t.entries;
         kept = t.kept;
         fund = t.fund;
         form = ap (λ p. pressed_in_turn p (operators_in letters)) t.form ∙ sym (pressed_joined no_letters l.letters (operators_in letters));
-        out_marked = λ out. absurd (both_ways v.out out_passes.0 out);
+        out_marked = λ out. cc;
         paid_is = t.paid_is;
-        worked_is = λ e. unmarked e;
+        worked_is = λ e. cc;
       }
 
   pub tied_divide : (f : Meaning) → Lawful f → divide_due v ≡ None → Tied (fed (Divide f (Ok tt)) l) (divided v f)
   tied_divide f law none =
-      let total-passes = none_due _ _ _ none in
-      let covered : v.fund ≤ total (amounts v.rows) = ltb-false _ _ total-passes.0 in
+      let covered : v.fund ≤ total (amounts v.rows) = grind (arith, nat_tests) in
       record {
         entries = t.entries ∙ sym (entries_awarded (awards_by v f) v.rows);
         kept = t.kept;
@@ -362,14 +315,13 @@ module _ (l : Ledger) (v : View) (t : Tied l v) where
 
   pub tied_draw : draw_due v ≡ None → Tied l (drawn v)
   tied_draw none =
-      let out_passes = none_due _ _ _ none in
-      let mark_passes = none_due _ _ _ out_passes.1 in
+      let marked : v.marked ≡ true = grind (arith, nat_tests) in
       record {
         entries = t.entries;
         kept = t.kept;
         fund = t.fund;
         form = t.form;
-        out_marked = λ out. not-false v.marked mark_passes.0;
+        out_marked = λ out. marked;
         paid_is = t.paid_is;
         worked_is = t.worked_is;
       }
@@ -377,8 +329,8 @@ module _ (l : Ledger) (v : View) (t : Tied l v) where
   -- a sheet of the case says that the awards are worked
   pub sheet_marked : (sheet : Sheet) (room : ℕ) → sign_due v sheet room ≡ None → v.marked ≡ true
   sheet_marked sheet room none =
-      let its = not-false (is_its_sheet v sheet) (none_due _ _ _ none).0 in
-      t.out_marked (and_parts v.out (eqb sheet.number v.number) its).0
+      let out : v.out ≡ true = grind (arith, nat_tests) in
+      t.out_marked out
 
   pub tied_sign : (sheet : Sheet) (room count : ℕ) (postings : List Posting) → sign_due v sheet room ≡ None → Tied (fed (Sign sheet room (Ok count) postings) l) (signed v)
   tied_sign sheet room count postings none = record {
@@ -388,7 +340,7 @@ module _ (l : Ledger) (v : View) (t : Tied l v) where
     form = t.form;
     out_marked = λ e. e;
     paid_is = λ n. t.worked_is (sheet_marked sheet room none) n ∙ sym (paid_settled n v.rows);
-    worked_is = λ e. unmarked e;
+    worked_is = λ e. cc;
   }
 
   pub tied_return : Tied l (returned v)
@@ -397,7 +349,7 @@ module _ (l : Ledger) (v : View) (t : Tied l v) where
     kept = t.kept;
     fund = t.fund;
     form = t.form;
-    out_marked = λ e. unmarked e;
+    out_marked = λ e. cc;
     paid_is = t.paid_is;
     worked_is = t.worked_is;
   }

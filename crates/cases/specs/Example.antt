@@ -1,9 +1,9 @@
 -- One run of a case with two signings, so that the law of histories is seen to say something: money moves, and part of
 -- it comes back. Assumes nothing.
-use Rattle.std.specs.Prelude.{◌≡◌, ℕ, suc, true, false, List, [], ◌∷◌, pos, neg_ℤ, Ok, Err, codes}
+use Rattle.std.specs.Prelude.{◌≡◌, ℕ, suc, true, false, List, [], ◌∷◌, pos, neg_ℤ, Ok, Err, codes, Some}
 use Rattle.division.specs.EqualAwards.{equal_awards}
 use Rattle.division.specs.Proportion.{proportion}
-use Rattle.normal_form.specs.declared.form.Order.TheVariants.{JuniorFirst}
+use Rattle.operators.specs.declared.classes.ClassOrder.TheVariants.{JuniorFirst}
 use Rattle.normal_form.specs.declared.form.Place.TheVariants.{Absent, Inner}
 use Rattle.cases.specs.declared.row.Posting.{Posting}
 use Rattle.cases.specs.declared.sheet.Sheet.{Sheet}
@@ -65,7 +65,7 @@ abbrev pub example_view : View
 example_view = record {
   number = 7;
   fund = 350;
-  form = record { dual = true; order = JuniorFirst; truncation = Absent; rights = Inner };
+  form = record { dual = true; order = Some JuniorFirst; truncation = Absent; rights = Inner };
   rows =
       record { number = 11; amount = 100; class = 1; paid = 50; award = 50 }
       ∷ record { number = 12; amount = 300; class = 2; paid = 300; award = 300 }

@@ -6,6 +6,16 @@ mod dues;
 pub mod keeping;
 pub mod signing;
 
+// What a case waits for. No sheet is out of a case whose awards are not worked.
+#[derive(Clone, Copy, Debug, PartialEq, Eq)]
+enum Stage {
+    Unworked,
+    // The mark: the awards in the rows are those of what the case holds now.
+    Worked,
+    // The same, and a sheet says so.
+    SheetOut,
+}
+
 #[derive(Drop)]
 pub struct Case {
     number: u32,
@@ -13,8 +23,5 @@ pub struct Case {
     // What is kept of the letters pressed.
     form: Form,
     table: Table,
-    // The mark: whether the awards in the rows are those of what the case holds now.
-    worked: bool,
-    // Whether a sheet is out.
-    out: bool,
+    stage: Stage,
 }

@@ -32,20 +32,13 @@ impl Numbered for Posting {
 pub fn find<T: Numbered>(items: &[T], number: u32) -> Option<usize>
     ensures result { FirstBearing T.Numbered.bears number items.now result }
 {
-    for (i, item) in items.iter().enumerate() {
-        if item.claimant() == number {
-            return Some(i);
-        }
-    }
-    None
+    items.iter().position(|item| item.claimant() == number)
 }
 
 // A claimant's posting in a signed list.
 pub fn find_posting(postings: &[Posting], number: u32) -> Option<Posting>
     ensures result { FirstPosting number postings.now result }
 {
-    match find(postings, number) {
-        Some(i) => Some(postings[i]),
-        None => None,
-    }
+    let place = find(postings, number)?;
+    Some(postings[place])
 }

@@ -14,6 +14,7 @@ pub(crate) fn write_awards(rows: &mut [Row], awards: &[u32])
     requires { length awards.now ≡ length rows.old }
     ensures rows { rows.new ≡ with_awards awards.now rows.old }
 {
+    // By index: after iter_mut().zip(awards) nothing is known of what stands in the rows, so that proof does not close.
     for (i, row) in rows.iter_mut().enumerate() {
         row.award = awards[i];
     }
@@ -44,6 +45,7 @@ fn settle_all(rows: &mut [Row], out: &mut [Posting]) -> i64
     ensures postings { AllByRecursion Postable (map row_posting rows.old) }
 {
     let mut sum: i64 = 0;
+    // By index, as in write_awards.
     for (i, row) in rows.iter_mut().enumerate() {
         let posting = settle(row);
         sum += posting.amount;

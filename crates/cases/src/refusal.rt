@@ -1,11 +1,15 @@
 // Why a case refuses a call.
-ghost use Rattle.std.specs.Prelude.{◌≡◌};
+ghost use Rattle.std.specs.Prelude.{◌≡◌, Some};
+ghost use Rattle.std.specs.Fmt.{decimal};
 ghost use Rattle.cases.specs.Cases.{case_refusal_number, sheet_refusal_number};
+ghost use Rattle.cases.specs.declared.refusal.CaseRefusal.TheVariants.{Letter as LetterRefused};
 
 use normal_form::letter::LetterRefusal;
+use std::error::Error;
+use std::fmt;
 
 // What whoever keeps the case may meet.
-#[derive(Clone, Copy, Debug)]
+#[derive(Clone, Copy, Debug, PartialEq, Eq)]
 pub enum CaseRefusal {
     TotalAboveLimit,
     EstateAboveTotal,
@@ -24,6 +28,7 @@ impl CaseRefusal {
     pub fn number(&self) -> u8
         ensures result { result ≡ case_refusal_number self.now }
     {
+        // A match and not the variants' own numbers, since a refused letter brings a number with it.
         match self {
             CaseRefusal::TotalAboveLimit => 3,
             CaseRefusal::EstateAboveTotal => 4,
@@ -39,21 +44,46 @@ impl CaseRefusal {
     }
 }
 
-// What whoever holds a sheet may meet.
-#[derive(Clone, Copy, Debug)]
+// A string of letters that is refused is what a press meets.
+impl From<LetterRefusal> for CaseRefusal {
+    ghost from_gives = { λ letter refusal. refusal ≡ LetterRefused letter };
+
+    fn from(letter: LetterRefusal) -> CaseRefusal {
+        CaseRefusal::Letter(letter)
+    }
+}
+
+impl fmt::Display for CaseRefusal {
+    ghost output = { λ refusal. Some (decimal (case_refusal_number refusal)) };
+
+    fn fmt<W: fmt::Write>(&self, f: &mut fmt::Formatter<W>) -> fmt::Result {
+        write!(f, "{}", self.number())
+    }
+}
+
+impl Error for CaseRefusal {}
+
+// What whoever holds a sheet may meet, each with the number under which it is known and printed.
+#[derive(Clone, Copy, Debug, PartialEq, Eq)]
 pub enum SheetRefusal {
-    OtherCase,
-    ListTooShort,
+    OtherCase = 14,
+    ListTooShort = 15,
 }
 
 impl SheetRefusal {
-    // The number under which the refusal is known and printed.
     pub fn number(&self) -> u8
         ensures result { result ≡ sheet_refusal_number self.now }
     {
-        match self {
-            SheetRefusal::OtherCase => 14,
-            SheetRefusal::ListTooShort => 15,
-        }
+        *self as u8
     }
 }
+
+impl fmt::Display for SheetRefusal {
+    ghost output = { λ refusal. Some (decimal (sheet_refusal_number refusal)) };
+
+    fn fmt<W: fmt::Write>(&self, f: &mut fmt::Formatter<W>) -> fmt::Result {
+        write!(f, "{}", *self as u8)
+    }
+}
+
+impl Error for SheetRefusal {}

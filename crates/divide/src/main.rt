@@ -2,35 +2,12 @@
 // compares some strings of letters by their normal forms; and works one estate through interim payments.
 #![tactic(auto)]
 
-use division::equal_awards::EqualAwards;
-use division::priority::Priority;
-use division::proportion::Proportion;
-use division::talmud::Talmud;
+use division::base_rule::BaseRule;
 use normal_form::compare::{Comparison, compare};
-use normal_form::form::Form;
-use normal_form::pile::{PileRefusal, apply};
-use std::{fmt, io};
+use normal_form::pile::apply;
+use std::io;
 
 mod interim;
-
-#[derive(Clone, Copy)]
-enum BaseRule {
-    Priority,
-    Equal,
-    Proportion,
-    Talmud,
-}
-
-impl fmt::Display for BaseRule {
-    fn fmt<W: fmt::Write>(&self, f: &mut fmt::Formatter<W>) -> fmt::Result {
-        match self {
-            BaseRule::Priority => f.write_str("priority"),
-            BaseRule::Equal => f.write_str("equal"),
-            BaseRule::Proportion => f.write_str("proportion"),
-            BaseRule::Talmud => f.write_str("talmud"),
-        }
-    }
-}
 
 // An estate to be shared, with the class of each claim.
 #[derive(Clone, Copy)]
@@ -38,26 +15,6 @@ struct Estate {
     claims: &'static [u32],
     classes: &'static [u8],
     amount: u32,
-}
-
-fn divide(
-    rule: BaseRule,
-    letters: &str,
-    estate: Estate,
-    out: &mut [u32],
-) -> Result<(), PileRefusal> {
-    let letters = letters.as_bytes();
-    let Estate {
-        claims,
-        classes,
-        amount,
-    } = estate;
-    match rule {
-        BaseRule::Priority => apply(letters, &Priority, classes, claims, amount, out),
-        BaseRule::Equal => apply(letters, &EqualAwards, classes, claims, amount, out),
-        BaseRule::Proportion => apply(letters, &Proportion, classes, claims, amount, out),
-        BaseRule::Talmud => apply(letters, &Talmud, classes, claims, amount, out),
-    }
 }
 
 fn show_awards(rt: &HostRuntime, claims: &[u32], awards: &[u32]) -> io::Result<()> {
@@ -73,41 +30,31 @@ fn or_hyphen(letters: &str) -> &str {
 }
 
 fn show(rt: &HostRuntime, rule: BaseRule, letters: &str, estate: Estate) -> io::Result<()> {
-    let amount = estate.amount;
+    let Estate {
+        claims,
+        classes,
+        amount,
+    } = estate;
     let shown = or_hyphen(letters);
     print!(rt; "{rule} {shown} at {amount}:")?;
-    let mut awards = vec![in rt.alloc(); 0u32; estate.claims.len()]?;
-    match divide(rule, letters, estate, &mut awards) {
-        Ok(()) => show_awards(rt, estate.claims, &awards),
-        Err(refusal) => {
-            let number = refusal.number();
-            println!(rt; " refused, {number}")
-        }
+    let mut awards = vec![in rt.alloc(); 0u32; claims.len()]?;
+    match apply(
+        letters.as_bytes(),
+        &rule,
+        classes,
+        claims,
+        amount,
+        &mut awards,
+    ) {
+        Ok(()) => show_awards(rt, claims, &awards),
+        Err(refusal) => println!(rt; " refused, {refusal}"),
     }
-}
-
-fn show_form(rt: &HostRuntime, form: &Form) -> io::Result<()> {
-    let mut text = [b' '; 6];
-    let size = form.write(&mut text);
-    for byte in text.iter().take(size) {
-        let letter = *byte as char;
-        print!(rt; "{letter}")?;
-    }
-    Ok(())
 }
 
 fn show_forms(rt: &HostRuntime, comparison: Comparison) -> io::Result<()> {
     match comparison {
-        Comparison::Same(form) => {
-            print!(rt; "same, ")?;
-            show_form(rt, &form)
-        }
-        Comparison::Differ(first, second) => {
-            print!(rt; "differ, ")?;
-            show_form(rt, &first)?;
-            print!(rt; " and ")?;
-            show_form(rt, &second)
-        }
+        Comparison::Same(form) => print!(rt; "same, {form}"),
+        Comparison::Differ(first, second) => print!(rt; "differ, {first} and {second}"),
     }
 }
 
@@ -117,10 +64,7 @@ fn show_comparison(rt: &HostRuntime, left: &str, right: &str) -> io::Result<()> 
     print!(rt; "{first} and {second}: ")?;
     match compare(left.as_bytes(), right.as_bytes()) {
         Ok(comparison) => show_forms(rt, comparison)?,
-        Err(refusal) => {
-            let number = refusal.number();
-            print!(rt; "refused, {number}")?;
-        }
+        Err(refusal) => print!(rt; "refused, {refusal}")?,
     }
     println!(rt; "")
 }

@@ -1,10 +1,11 @@
 -- One turn more of the loops over the claims. Assumes nothing.
-use Rattle.std.proofs.Common.{◌≡◌, ℕ, zero, suc, ◌+◌, ◌-◌, ◌<◌, ◌≤◌, min, max, Bool, cond, List, [], ◌∷◌, ◌++◌, map, length, get_or, take, drop, set, sym, ap, ◌∙◌, append_assoc, append-nil, add-one, arith}
+use Rattle.std.proofs.Common.{◌≡◌, ℕ, zero, suc, ◌+◌, ◌-◌, ◌<◌, ◌≤◌, min, max, Bool, true, false, cond, List, [], ◌∷◌, ◌++◌, map, fold, count_by, length, get_or, take, drop, set, sym, ap, refl, ◌∙◌, append_assoc, append-nil, add-one, arith}
 use Rattle.std.proofs.lemmas.List.{take_more_set, drop_more, take_all, drop_all}
+use Rattle.std.proofs.lemmas.List.Recursion.{is_count_by}
 use Rattle.division.specs.Amounts.{total}
 use Rattle.division.specs.EqualAwards.{largest}
 use Rattle.division.specs.Priority.{priority}
-use Rattle.division.specs.Units.{one_unit, topped_up, how_many}
+use Rattle.division.specs.Units.{how_many}
 
 -- a list written from the front on: one place more, with what is to follow
 pub placed_more : (out : List ℕ) (i y : ℕ) (after : List ℕ) → i < length out → take (i + 1) (set out i y) ++ after ≡ take i out ++ (y ∷ after)
@@ -23,13 +24,6 @@ priority_more claims out left i inside room =
     ∙ ap (λ a. take i out ++ (a ∷ priority (drop (i + 1) claims) (left - a))) (sym same)
     ∙ ap (λ cs. take i out ++ priority cs left) (sym (drop_more claims i 0 inside))
 
-pub topped_up_more : (base : ℕ → ℕ) (marked : ℕ → Bool) (claims out : List ℕ) (left i : ℕ) → i < length claims → i < length out → take (i + 1) (set out i (base (get_or claims i 0) + one_unit (marked (get_or claims i 0)) left)) ++ topped_up base marked (left - one_unit (marked (get_or claims i 0)) left) (drop (i + 1) claims) ≡ take i out ++ topped_up base marked left (drop i claims)
-topped_up_more base marked claims out left i inside room =
-    let c = get_or claims i 0 in
-    let unit = one_unit (marked c) left in
-    placed_more out i (base c + unit) (topped_up base marked (left - unit) (drop (i + 1) claims)) room
-    ∙ ap (λ cs. take i out ++ topped_up base marked left cs) (sym (drop_more claims i 0 inside))
-
 module _ (base : ℕ → ℕ) where
   total_map_suc : (xs : List ℕ) (i : ℕ) → i < length xs → total (map base (take (suc i) xs)) ≡ total (map base (take i xs)) + base (get_or xs i 0)
   total_map_suc [] i h = absurd (omega arith)
@@ -39,19 +33,18 @@ module _ (base : ℕ → ℕ) where
   pub total_map_more : (xs : List ℕ) (i : ℕ) → i < length xs → total (map base (take (i + 1) xs)) ≡ total (map base (take i xs)) + base (get_or xs i 0)
   total_map_more xs i h = rw (add-one i) (total_map_suc xs i h)
 
-module _ (marked : ℕ → Bool) where
-  how_many_suc : (xs : List ℕ) (i : ℕ) → i < length xs → how_many marked (take (suc i) xs) ≡ how_many marked (take i xs) + cond (marked (get_or xs i 0)) 1 0
-  how_many_suc [] i h = absurd (omega arith)
-  how_many_suc (x ∷ xs) zero h = omega arith
-  how_many_suc (x ∷ xs) (suc i) h = omega (arith, how_many_suc xs i (omega arith))
+one_more : (b : Bool) (n : ℕ) → cond b 1 0 + n ≡ cond b (1 + n) n
+one_more true n = refl
+one_more false n = omega arith
 
-  pub how_many_more : (xs : List ℕ) (i : ℕ) → i < length xs → how_many marked (take (i + 1) xs) ≡ how_many marked (take i xs) + cond (marked (get_or xs i 0)) 1 0
-  how_many_more xs i h = rw (add-one i) (how_many_suc xs i h)
+-- the marked claims are counted one by one
+pub how_many_counted : (marked : ℕ → Bool) (xs : List ℕ) → how_many marked xs ≡ count_by marked xs
+how_many_counted marked = is_count_by (how_many marked) marked refl (λ x xs. one_more (marked x) (how_many marked xs))
 
-largest_suc : (xs : List ℕ) (i : ℕ) → i < length xs → largest (take (suc i) xs) ≡ max (largest (take i xs)) (get_or xs i 0)
-largest_suc [] i h = absurd (omega arith)
-largest_suc (x ∷ xs) zero h = omega arith
-largest_suc (x ∷ xs) (suc i) h = omega (arith, largest_suc xs i (omega arith))
+largest_from : (most : ℕ) (xs : List ℕ) → fold max most xs ≡ max most (largest xs)
+largest_from most [] = omega arith
+largest_from most (x ∷ xs) = omega (arith, largest_from (max most x) xs)
 
-pub largest_more : (xs : List ℕ) (i : ℕ) → i < length xs → largest (take (i + 1) xs) ≡ max (largest (take i xs)) (get_or xs i 0)
-largest_more xs i h = rw (add-one i) (largest_suc xs i h)
+-- the largest claim is found by going through them all
+pub largest_folded : (xs : List ℕ) → largest xs ≡ fold max 0 xs
+largest_folded xs = omega (arith, largest_from 0 xs)

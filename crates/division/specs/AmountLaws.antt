@@ -1,8 +1,10 @@
 -- What holds of lists of amounts: their lengths, what stands at a place, and what they add up to. Assumes nothing.
 -- A place past the end of a list counts as 0, so that no law on places needs a bound.
-use Rattle.std.specs.Prelude.{◌≡◌, ℕ, zero, suc, ◌+◌, ◌-◌, ◌<◌, ◌≤◌, min, List, [], ◌∷◌, length, take, slice_index, refl}
-use Rattle.std.proofs.Common.{ap, add-one, arith, ext_get_or}
-use Rattle.division.specs.Amounts.{total, less, cut, plus, nothing}
+use Rattle.std.specs.Prelude.{◌≡◌, ℕ, zero, suc, ◌+◌, ◌-◌, ◌<◌, ◌≤◌, min, List, [], ◌∷◌, ◌++◌, length, take, slice_index, refl}
+use Rattle.std.proofs.Common.{ap, ◌∙◌, append-nil, add-one, arith, ext_get_or}
+use Rattle.std.specs.List.{refill}
+use Rattle.std.proofs.lemmas.List.{drop_all, take_all}
+use Rattle.division.specs.Amounts.{total, less, less_over, cut, plus, nothing}
 
 -- at every place the first list has no more than the second
 abbrev pub Within : List ℕ → List ℕ → Type 0
@@ -18,6 +20,30 @@ slice_index-less [] ys i = omega arith
 slice_index-less (x ∷ xs) [] i = omega arith
 slice_index-less (x ∷ xs) (y ∷ ys) zero = refl
 slice_index-less (x ∷ xs) (y ∷ ys) (suc i) = slice_index-less xs ys i
+
+-- over a list as long, it is the first list less the second
+pub less_over_same : (xs ys : List ℕ) → length xs ≡ length ys → less_over xs ys ≡ less xs ys
+less_over_same [] [] e = refl
+less_over_same [] (y ∷ ys) e = absurd (omega arith)
+less_over_same (x ∷ xs) [] e = absurd (omega arith)
+less_over_same (x ∷ xs) (y ∷ ys) e = ap (λ zs. (x - y) ∷ zs) (less_over_same xs ys (omega arith))
+
+pub length-less_over : (xs ys : List ℕ) → length (less_over xs ys) ≡ length ys
+length-less_over xs [] = refl
+length-less_over [] (y ∷ ys) = refl
+length-less_over (x ∷ xs) (y ∷ ys) = ap suc (length-less_over xs ys)
+
+pub less_over_inside : (xs ys : List ℕ) (i : ℕ) → i < length xs → i < length ys → slice_index (less_over xs ys) i ≡ slice_index xs i - slice_index ys i
+less_over_inside xs [] i h k = absurd (omega arith)
+less_over_inside [] (y ∷ ys) i h k = absurd (omega arith)
+less_over_inside (x ∷ xs) (y ∷ ys) zero h k = refl
+less_over_inside (x ∷ xs) (y ∷ ys) (suc i) h k = less_over_inside xs ys i (omega arith) (omega arith)
+
+pub less_over_behind : (xs ys : List ℕ) (i : ℕ) → length xs ≤ i → slice_index (less_over xs ys) i ≡ slice_index ys i
+less_over_behind xs [] i h = refl
+less_over_behind [] (y ∷ ys) i h = refl
+less_over_behind (x ∷ xs) (y ∷ ys) zero h = absurd (omega arith)
+less_over_behind (x ∷ xs) (y ∷ ys) (suc i) h = less_over_behind xs ys i (omega arith)
 
 pub length-cut : (cap : ℕ) (xs : List ℕ) → length (cut cap xs) ≡ length xs
 length-cut cap [] = refl
@@ -95,3 +121,17 @@ nothing_same [] [] e = refl
 nothing_same [] (y ∷ ys) e = absurd (omega arith)
 nothing_same (x ∷ xs) [] e = absurd (omega arith)
 nothing_same (x ∷ xs) (y ∷ ys) e = ap (λ zs. 0 ∷ zs) (nothing_same xs ys (omega arith))
+
+-- amounts that add up to nothing are nothing
+pub nothing_left : (xs : List ℕ) → total xs ≡ 0 → xs ≡ nothing xs
+nothing_left [] e = refl
+nothing_left (x ∷ xs) e =
+    let none : x ≡ 0 = omega arith in
+    ap (λ z. z ∷ xs) none ∙ ap (λ zs. 0 ∷ zs) (nothing_left xs (omega arith))
+
+-- a buffer written over from end to end holds what was written
+pub refilled : (before after : List ℕ) → length after ≡ length before → refill (length before) before after ≡ after
+refilled before after e =
+    ap (λ l. take (length before) (after ++ l)) (drop_all (length after) before (omega arith))
+    ∙ ap (take (length before)) (append-nil after)
+    ∙ take_all (length before) after (omega arith)

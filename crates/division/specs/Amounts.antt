@@ -12,6 +12,12 @@ less [] ys = []
 less (x ∷ xs) [] = x ∷ xs
 less (x ∷ xs) (y ∷ ys) = (x - y) ∷ less xs ys
 
+-- each amount of the second list turned into what the amount at its place in the first is more, as far as both go
+abbrev pub less_over : List ℕ → List ℕ → List ℕ
+less_over xs [] = []
+less_over [] (y ∷ ys) = y ∷ ys
+less_over (x ∷ xs) (y ∷ ys) = (x - y) ∷ less_over xs ys
+
 -- each amount cut to at most the cap
 abbrev pub cut : ℕ → List ℕ → List ℕ
 cut cap [] = []

@@ -12,3 +12,5 @@ pub mod Proportion
 pub mod ProportionLawful
 pub mod Talmud
 pub mod TalmudLawful
+pub mod BaseRules
+pub mod BaseRulesLawful

@@ -22,7 +22,7 @@ impl Rule for Priority {
     }
 }
 
-// Gives each claim in turn the smaller of itself and what is left.
+// Gives each claim in turn, with its place, the smaller of itself and what is left: a rule of the project.
 fn pay_in_turn(claims: &[u32], estate: u32, out: &mut [u32])
     requires { length out.old ≡ length claims.now }
     ensures awards { out.new ≡ priority claims.now estate }

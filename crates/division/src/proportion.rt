@@ -1,14 +1,12 @@
 // Proportion: the same part of each claim, rounded down, and the missing units to the first claims that were rounded.
-ghost use Rattle.std.specs.Prelude.{◌≡◌, ℕ, ◌<◌, ◌≤◌, length};
-ghost use Rattle.division.specs.Amounts.{total, nothing};
-ghost use Rattle.division.specs.Problem.{Sound};
+ghost use Rattle.std.specs.Prelude.{◌≡◌, ◌*◌, ◌<◌, ◌≤◌};
 ghost use Rattle.division.specs.Proportion.{part, rounded, proportion};
 ghost use Rattle.division.specs.ProportionLawful.{proportion_lawful, prorated_room};
 
-use crate::problem::check;
+use crate::problem::Problem;
 use crate::refusal::RuleRefusal;
 use crate::rule::Rule;
-use crate::share::{Share, base_total, hand_out};
+use crate::share::{Awards, Share, hand_out};
 
 // A claim's part of the estate, rounded down; a claim whose division left a remainder may get a unit more.
 #[derive(Clone, Copy)]
@@ -19,6 +17,15 @@ struct Prorated {
     ghost some: { 0 < sum },
 }
 
+impl Prorated {
+    // The claim times the estate: 32 bits times 32 bits fit 64 bits.
+    fn whole(&self, claim: u32) -> u64
+        ensures result { result ≡ claim * self.now.estate }
+    {
+        u64::from(claim) * u64::from(self.estate)
+    }
+}
+
 impl Share for Prorated {
     ghost base = { λ s. part s.estate s.sum };
 
@@ -26,11 +33,15 @@ impl Share for Prorated {
 
     ghost room = { λ s. prorated_room s.estate s.sum s.covered s.some };
 
-    fn of(&self, claim: u32) -> (u32, bool) {
-        // 32 bits times 32 bits fit 64 bits.
-        let whole = u64::from(claim) * u64::from(self.estate);
+    fn part(&self, claim: u32) -> u32 {
         let sum = u64::from(self.sum);
-        ((whole / sum) as u32, whole % sum > 0)
+        (self.whole(claim) / sum) as u32
+    }
+
+    fn marks(&self, claim: u32) -> bool {
+        let whole = self.whole(claim);
+        let sum = u64::from(self.sum);
+        whole % sum > 0
     }
 }
 
@@ -43,44 +54,24 @@ impl Rule for Proportion {
     ghost lawful = { λ _. proportion_lawful };
 
     fn divide(&self, claims: &[u32], estate: u32, out: &mut [u32]) -> Result<(), RuleRefusal> {
-        let sum = check(claims, estate, out.len())?;
-        pay_in_proportion(claims, estate, sum, out);
+        let problem = Problem::new(claims, estate, out.len())?;
+        if problem.sum == 0 {
+            // Where the claims add up to nothing, every claim is 0, and so is its award.
+            out.copy_from_slice(claims);
+        } else {
+            out.copy_from_slice(&pay_parts(&problem));
+        }
         Ok(())
     }
 }
 
-// Pays the awards of a sound problem whose claims add up to `sum`.
-fn pay_in_proportion(claims: &[u32], estate: u32, sum: u32, out: &mut [u32])
-    requires sound { Sound claims.now estate }
-    requires sum { sum ≡ total claims.now }
-    requires room { length out.old ≡ length claims.now }
-    ensures awards { out.new ≡ proportion claims.now estate }
-{
-    if sum == 0 {
-        pay_nothing(out);
-    } else {
-        pay_parts(claims, estate, sum, out);
-    }
-}
-
-// Where the claims add up to nothing, every award is 0.
-fn pay_nothing(out: &mut [u32])
-    ensures awards { out.new ≡ nothing out.old }
-{
-    for award in out.iter_mut() {
-        *award = 0;
-    }
-}
-
 // Pays each claim its part, and the missing units to the first claims that were rounded.
-fn pay_parts(claims: &[u32], estate: u32, sum: u32, out: &mut [u32])
-    requires sound { Sound claims.now estate }
-    requires sum { sum ≡ total claims.now }
-    requires some { 0 < sum }
-    requires room { length out.old ≡ length claims.now }
-    ensures awards { out.new ≡ proportion claims.now estate }
+fn pay_parts(problem: &Problem<'_>) -> Awards
+    requires some { 0 < problem.now.sum }
+    ensures awards { result.items ≡ proportion problem.now.claims.now problem.now.estate }
 {
+    let Problem { estate, sum, .. } = *problem;
     let share = Prorated { estate, sum };
-    let paid = base_total(&share, claims);
-    hand_out(&share, estate - paid as u32, claims, out);
+    let paid = problem.base_total(&share);
+    hand_out(problem, &share, estate - paid)
 }

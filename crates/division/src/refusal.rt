@@ -1,13 +1,16 @@
-// Why a rule refuses a problem.
-ghost use Rattle.std.specs.Prelude.{◌≡◌};
+// Why a rule refuses a problem. Each refusal stands beside the number under which it is known and printed.
+ghost use Rattle.std.specs.Prelude.{◌≡◌, Some, decimal};
 ghost use Rattle.division.specs.Refusals.{rule_number};
+
+use std::error::Error;
+use std::fmt;
 
 #[derive(Clone, Copy, Debug, PartialEq, Eq)]
 pub enum RuleRefusal {
-    TooManyClaims,
-    AwardListLength,
-    TotalAboveLimit,
-    EstateAboveTotal,
+    TooManyClaims = 1,
+    AwardListLength = 2,
+    TotalAboveLimit = 3,
+    EstateAboveTotal = 4,
 }
 
 impl RuleRefusal {
@@ -15,11 +18,16 @@ impl RuleRefusal {
     pub fn number(&self) -> u8
         ensures result { result ≡ rule_number self.now }
     {
-        match self {
-            RuleRefusal::TooManyClaims => 1,
-            RuleRefusal::AwardListLength => 2,
-            RuleRefusal::TotalAboveLimit => 3,
-            RuleRefusal::EstateAboveTotal => 4,
-        }
+        *self as u8
     }
 }
+
+impl fmt::Display for RuleRefusal {
+    ghost output = { λ refusal. Some (decimal (rule_number refusal)) };
+
+    fn fmt<W: fmt::Write>(&self, f: &mut fmt::Formatter<W>) -> fmt::Result {
+        self.number().fmt(f)
+    }
+}
+
+impl Error for RuleRefusal {}

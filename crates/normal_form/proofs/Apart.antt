@@ -1,6 +1,6 @@
 -- The 44 forms and the nine problems: one computed test shows that no two forms give the same awards on all nine.
 -- Assumes nothing.
-use Rattle.std.proofs.Common.{◌≡◌, ℕ, zero, suc, ◌-◌, ◌<◌, ◌≤◌, Bool, true, false, cond, not, ◌&&◌, ◌||◌, T, eqb, leb, List, [], ◌∷◌, ◌++◌, map, length, get_or, sym, refl, ap, ◌∙◌, subst, inl, inr, arith, lit≤}
+use Rattle.std.proofs.Common.{◌≡◌, ℕ, zero, suc, ◌-◌, ◌<◌, ◌≤◌, Bool, true, false, cond, not, ◌&&◌, ◌||◌, T, eqb, leb, List, [], ◌∷◌, ◌++◌, map, length, get_or, sym, refl, ap, ◌∙◌, subst, inl, inr, arith, lit≤, Some, None, Option}
 use mathlib.Core.Bool.{beq, false≢true}
 use Rattle.std.specs.List.{flat_map, ContainsAt as Has, AllByRecursion}
 use Rattle.std.proofs.lemmas.List.{get_or-map}
@@ -12,8 +12,8 @@ use Rattle.division.specs.ProportionLawful.{proportion_lawful}
 use Rattle.operators.specs.Operators.{Classed, last_class}
 use Rattle.normal_form.specs.declared.letter.Operator.{Operator}
 use Rattle.normal_form.specs.declared.letter.Operator.TheVariants.{Dual, Truncation, MinimalRights, Seniority, ReverseSeniority}
-use Rattle.normal_form.specs.declared.form.Order.{Order}
-use Rattle.normal_form.specs.declared.form.Order.TheVariants.{Unordered, SeniorFirst, JuniorFirst}
+use Rattle.operators.specs.declared.classes.ClassOrder.{ClassOrder}
+use Rattle.operators.specs.declared.classes.ClassOrder.TheVariants.{SeniorFirst, JuniorFirst}
 use Rattle.normal_form.specs.declared.form.Place.{Place}
 use Rattle.normal_form.specs.declared.form.Place.TheVariants.{Absent, Inner, Outer}
 use Rattle.normal_form.specs.Forms.{Parts, WellPlaced, well_placed, no_letters, pressed, pressed_in_turn, normal_form, letters_of, all_forms}
@@ -78,27 +78,27 @@ same_place i j within within' e =
 pub forms_once : (i j : ℕ) → i < 44 → j < 44 → get_or all_forms i no_letters ≡ get_or all_forms j no_letters → i ≡ j
 forms_once i j within within' e = same_place i j within within' (ap awards_of e)
 
-abbrev same_order : Order → Order → Bool
-same_order Unordered Unordered = true
-same_order Unordered SeniorFirst = false
-same_order Unordered JuniorFirst = false
-same_order SeniorFirst Unordered = false
-same_order SeniorFirst SeniorFirst = true
-same_order SeniorFirst JuniorFirst = false
-same_order JuniorFirst Unordered = false
-same_order JuniorFirst SeniorFirst = false
-same_order JuniorFirst JuniorFirst = true
+abbrev same_order : Option ClassOrder → Option ClassOrder → Bool
+same_order None None = true
+same_order None (Some SeniorFirst) = false
+same_order None (Some JuniorFirst) = false
+same_order (Some SeniorFirst) None = false
+same_order (Some SeniorFirst) (Some SeniorFirst) = true
+same_order (Some SeniorFirst) (Some JuniorFirst) = false
+same_order (Some JuniorFirst) None = false
+same_order (Some JuniorFirst) (Some SeniorFirst) = false
+same_order (Some JuniorFirst) (Some JuniorFirst) = true
 
-same_order_is : (x y : Order) → same_order x y ≡ true → x ≡ y
-same_order_is Unordered Unordered e = refl
-same_order_is Unordered SeniorFirst e = absurd (false≢true e)
-same_order_is Unordered JuniorFirst e = absurd (false≢true e)
-same_order_is SeniorFirst Unordered e = absurd (false≢true e)
-same_order_is SeniorFirst SeniorFirst e = refl
-same_order_is SeniorFirst JuniorFirst e = absurd (false≢true e)
-same_order_is JuniorFirst Unordered e = absurd (false≢true e)
-same_order_is JuniorFirst SeniorFirst e = absurd (false≢true e)
-same_order_is JuniorFirst JuniorFirst e = refl
+same_order_is : (x y : Option ClassOrder) → same_order x y ≡ true → x ≡ y
+same_order_is None None e = refl
+same_order_is None (Some SeniorFirst) e = absurd (false≢true e)
+same_order_is None (Some JuniorFirst) e = absurd (false≢true e)
+same_order_is (Some SeniorFirst) None e = absurd (false≢true e)
+same_order_is (Some SeniorFirst) (Some SeniorFirst) e = refl
+same_order_is (Some SeniorFirst) (Some JuniorFirst) e = absurd (false≢true e)
+same_order_is (Some JuniorFirst) None e = absurd (false≢true e)
+same_order_is (Some JuniorFirst) (Some SeniorFirst) e = absurd (false≢true e)
+same_order_is (Some JuniorFirst) (Some JuniorFirst) e = refl
 
 abbrev same_spot : Place → Place → Bool
 same_spot Absent Absent = true
@@ -156,13 +156,13 @@ every_flag_at : (f : Bool → Bool) → every_flag f ≡ true → (b : Bool) →
 every_flag_at f e true = (and_parts (f true) (f false) e).0
 every_flag_at f e false = (and_parts (f true) (f false) e).1
 
-abbrev every_order : (Order → Bool) → Bool
-every_order f = f Unordered && (f SeniorFirst && f JuniorFirst)
+abbrev every_order : (Option ClassOrder → Bool) → Bool
+every_order f = f None && (f (Some SeniorFirst) && f (Some JuniorFirst))
 
-every_order_at : (f : Order → Bool) → every_order f ≡ true → (o : Order) → f o ≡ true
-every_order_at f e Unordered = (and_parts (f Unordered) (f SeniorFirst && f JuniorFirst) e).0
-every_order_at f e SeniorFirst = (and_parts (f SeniorFirst) (f JuniorFirst) (and_parts (f Unordered) (f SeniorFirst && f JuniorFirst) e).1).0
-every_order_at f e JuniorFirst = (and_parts (f SeniorFirst) (f JuniorFirst) (and_parts (f Unordered) (f SeniorFirst && f JuniorFirst) e).1).1
+every_order_at : (f : Option ClassOrder → Bool) → every_order f ≡ true → (o : Option ClassOrder) → f o ≡ true
+every_order_at f e None = (and_parts (f None) (f (Some SeniorFirst) && f (Some JuniorFirst)) e).0
+every_order_at f e (Some SeniorFirst) = (and_parts (f (Some SeniorFirst)) (f (Some JuniorFirst)) (and_parts (f None) (f (Some SeniorFirst) && f (Some JuniorFirst)) e).1).0
+every_order_at f e (Some JuniorFirst) = (and_parts (f (Some SeniorFirst)) (f (Some JuniorFirst)) (and_parts (f None) (f (Some SeniorFirst) && f (Some JuniorFirst)) e).1).1
 
 abbrev every_place : (Place → Bool) → Bool
 every_place f = f Absent && (f Inner && f Outer)

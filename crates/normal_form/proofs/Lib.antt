@@ -6,7 +6,6 @@ pub mod Pressing
 pub mod Apart
 pub mod Theorems
 pub mod InTurn
-pub mod Lettering
 pub mod Answering
 pub mod Laying
 pub mod Refusing

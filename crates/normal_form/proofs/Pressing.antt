@@ -1,14 +1,14 @@
 -- Letters laid on a lawful rule: each law of the letters as agreement of rules, and that pressing a letter on a form
 -- does to the rule under it what the letter does. Assumes nothing.
-use Rattle.std.proofs.Common.{◌≡◌, ℕ, Bool, true, false, not, List, [], ◌∷◌, ◌++◌, sym, refl, ap, ◌∙◌, subst}
+use Rattle.std.proofs.Common.{◌≡◌, ℕ, Bool, true, false, not, List, [], ◌∷◌, ◌++◌, sym, refl, ap, ◌∙◌, subst, Some, None, Option}
 use mathlib.Core.Bool.{false≢true}
 use Rattle.division.specs.Problem.{Meaning, Lawful}
 use Rattle.operators.specs.Operators.{Classed, senior_first, junior_first}
 use Rattle.operators.specs.ClassLaws.{senior_once, junior_once}
 use Rattle.normal_form.specs.declared.letter.Operator.{Operator}
 use Rattle.normal_form.specs.declared.letter.Operator.TheVariants.{Dual, Truncation, MinimalRights, Seniority, ReverseSeniority}
-use Rattle.normal_form.specs.declared.form.Order.{Order}
-use Rattle.normal_form.specs.declared.form.Order.TheVariants.{Unordered, SeniorFirst, JuniorFirst}
+use Rattle.operators.specs.declared.classes.ClassOrder.{ClassOrder}
+use Rattle.operators.specs.declared.classes.ClassOrder.TheVariants.{SeniorFirst, JuniorFirst}
 use Rattle.normal_form.specs.declared.form.Place.{Place}
 use Rattle.normal_form.specs.declared.form.Place.TheVariants.{Absent, Inner, Outer}
 use Rattle.normal_form.specs.Letters.{operator, applied}
@@ -170,13 +170,13 @@ module _ (classes : List ℕ) (classed : Classed classes) where
   abbrev pub lay_so : Bool → Operator → LawfulRule → LawfulRule
   lay_so b o x = lay_all (where_so b o) x
 
-  abbrev pub lay_order : Order → LawfulRule → LawfulRule
+  abbrev pub lay_order : Option ClassOrder → LawfulRule → LawfulRule
   lay_order order x = lay_all (seniority_letter order) x
 
   pub under_so : (b : Bool) (o : Operator) {x y : LawfulRule} → Same x y → Same (lay_so b o x) (lay_so b o y)
   under_so b o a = under_all (where_so b o) a
 
-  pub under_place : (order : Order) {x y : LawfulRule} → Same x y → Same (lay_order order x) (lay_order order y)
+  pub under_place : (order : Option ClassOrder) {x y : LawfulRule} → Same x y → Same (lay_order order x) (lay_order order y)
   under_place order a = under_all (seniority_letter order) a
 
   pub dual_so_rights : (b : Bool) (x : LawfulRule) → Same (lay Dual (lay_so b MinimalRights x)) (lay_so b Truncation (lay Dual x))
@@ -187,10 +187,10 @@ module _ (classes : List ℕ) (classed : Classed classes) where
   dual_so_truncation true x = dual_truncation x
   dual_so_truncation false x = same
 
-  pub dual_so_order : (order : Order) (x : LawfulRule) → Same (lay Dual (lay_order order x)) (lay_order (reversed order) (lay Dual x))
-  dual_so_order Unordered x = same
-  dual_so_order SeniorFirst x = dual_seniority x
-  dual_so_order JuniorFirst x = dual_reverse x
+  pub dual_so_order : (order : Option ClassOrder) (x : LawfulRule) → Same (lay Dual (lay_order order x)) (lay_order (reversed order) (lay Dual x))
+  dual_so_order None x = same
+  dual_so_order (Some SeniorFirst) x = dual_seniority x
+  dual_so_order (Some JuniorFirst) x = dual_reverse x
 
   pub dual_so_dual : (b : Bool) (x : LawfulRule) → Same (lay Dual (lay_so b Dual x)) (lay_so (not b) Dual x)
   dual_so_dual true x = dual_dual x
@@ -216,20 +216,20 @@ module _ (classes : List ℕ) (classed : Classed classes) where
   class_so_rights true a = class_rights a
   class_so_rights false a = a
 
-  pub class_so_order : (order : Order) (x : LawfulRule) → SameInClass (lay_order order x) x
-  class_so_order Unordered x = class_same
-  class_so_order SeniorFirst x = class_order Seniority refl x
-  class_so_order JuniorFirst x = class_order ReverseSeniority refl x
+  pub class_so_order : (order : Option ClassOrder) (x : LawfulRule) → SameInClass (lay_order order x) x
+  class_so_order None x = class_same
+  class_so_order (Some SeniorFirst) x = class_order Seniority refl x
+  class_so_order (Some JuniorFirst) x = class_order ReverseSeniority refl x
 
   -- the inner letters of a form laid on a rule
   abbrev inner : Bool → Place → Place → LawfulRule → LawfulRule
   inner d t m x = lay_so (is_inner m) MinimalRights (lay_so (is_inner t) Truncation (lay_so d Dual x))
 
   -- a form laid on a rule, layer by layer
-  abbrev pub layered : Bool → Order → Place → Place → LawfulRule → LawfulRule
+  abbrev pub layered : Bool → Option ClassOrder → Place → Place → LawfulRule → LawfulRule
   layered d order t m x = lay_so (is_outer m) MinimalRights (lay_so (is_outer t) Truncation (lay_order order (inner d t m x)))
 
-  press_dual : (d : Bool) (order : Order) (t m : Place) (x : LawfulRule) → Same (lay Dual (layered d order t m x)) (layered (not d) (reversed order) m t x)
+  press_dual : (d : Bool) (order : Option ClassOrder) (t m : Place) (x : LawfulRule) → Same (lay Dual (layered d order t m x)) (layered (not d) (reversed order) m t x)
   press_dual d order t m x =
       follow (dual_so_rights (is_outer m) (lay_so (is_outer t) Truncation (lay_order order (inner d t m x))))
       (follow (under_so (is_outer m) Truncation (dual_so_truncation (is_outer t) (lay_order order (inner d t m x))))
@@ -248,49 +248,49 @@ module _ (classes : List ℕ) (classed : Classed classes) where
       follow (under Truncation (under o (back (truncation_so_rights m z))))
       (follow (outer_truncation o e (lay_so m MinimalRights z)) (under o (truncation_so_rights m z)))
 
-  press_truncation : (d : Bool) (order : Order) (t m : Place) (x : LawfulRule) → Same (lay Truncation (layered d order t m x)) (layered d order (laid order t) m x)
-  press_truncation d Unordered Absent m x =
+  press_truncation : (d : Bool) (order : Option ClassOrder) (t m : Place) (x : LawfulRule) → Same (lay Truncation (layered d order t m x)) (layered d order (laid order t) m x)
+  press_truncation d None Absent m x =
       follow (truncation_so_rights (is_outer m) (lay_so (is_inner m) MinimalRights (lay_so d Dual x)))
       (under_so (is_outer m) MinimalRights (truncation_so_rights (is_inner m) (lay_so d Dual x)))
-  press_truncation d Unordered Inner m x =
+  press_truncation d None Inner m x =
       follow (truncation_so_rights (is_outer m) (lay_so (is_inner m) MinimalRights (lay Truncation (lay_so d Dual x))))
       (under_so (is_outer m) MinimalRights
       (follow (truncation_so_rights (is_inner m) (lay Truncation (lay_so d Dual x)))
       (under_so (is_inner m) MinimalRights (truncation_truncation (lay_so d Dual x)))))
-  press_truncation d Unordered Outer m x =
+  press_truncation d None Outer m x =
       let below = lay_so (is_inner m) MinimalRights (lay_so d Dual x) in
       follow (truncation_so_rights (is_outer m) (lay Truncation below)) (under_so (is_outer m) MinimalRights (truncation_truncation below))
-  press_truncation d SeniorFirst Absent m x = truncation_so_rights (is_outer m) (lay Seniority (lay_so (is_inner m) MinimalRights (lay_so d Dual x)))
-  press_truncation d SeniorFirst Inner m x =
+  press_truncation d (Some SeniorFirst) Absent m x = truncation_so_rights (is_outer m) (lay Seniority (lay_so (is_inner m) MinimalRights (lay_so d Dual x)))
+  press_truncation d (Some SeniorFirst) Inner m x =
       follow (truncation_so_rights (is_outer m) (lay Seniority (lay_so (is_inner m) MinimalRights (lay Truncation (lay_so d Dual x)))))
       (under_so (is_outer m) MinimalRights (truncation_idle Seniority refl (is_inner m) (lay_so d Dual x)))
-  press_truncation d SeniorFirst Outer m x =
+  press_truncation d (Some SeniorFirst) Outer m x =
       let below = lay Seniority (lay_so (is_inner m) MinimalRights (lay_so d Dual x)) in
       follow (truncation_so_rights (is_outer m) (lay Truncation below)) (under_so (is_outer m) MinimalRights (truncation_truncation below))
-  press_truncation d JuniorFirst Absent m x = truncation_so_rights (is_outer m) (lay ReverseSeniority (lay_so (is_inner m) MinimalRights (lay_so d Dual x)))
-  press_truncation d JuniorFirst Inner m x =
+  press_truncation d (Some JuniorFirst) Absent m x = truncation_so_rights (is_outer m) (lay ReverseSeniority (lay_so (is_inner m) MinimalRights (lay_so d Dual x)))
+  press_truncation d (Some JuniorFirst) Inner m x =
       follow (truncation_so_rights (is_outer m) (lay ReverseSeniority (lay_so (is_inner m) MinimalRights (lay Truncation (lay_so d Dual x)))))
       (under_so (is_outer m) MinimalRights (truncation_idle ReverseSeniority refl (is_inner m) (lay_so d Dual x)))
-  press_truncation d JuniorFirst Outer m x =
+  press_truncation d (Some JuniorFirst) Outer m x =
       let below = lay ReverseSeniority (lay_so (is_inner m) MinimalRights (lay_so d Dual x)) in
       follow (truncation_so_rights (is_outer m) (lay Truncation below)) (under_so (is_outer m) MinimalRights (truncation_truncation below))
 
-  press_rights : (d : Bool) (order : Order) (t m : Place) (x : LawfulRule) → Same (lay MinimalRights (layered d order t m x)) (layered d order t (laid order m) x)
-  press_rights d Unordered t Absent x = rights_so_truncation (is_outer t) (lay_so (is_inner t) Truncation (lay_so d Dual x))
-  press_rights d Unordered t Inner x =
+  press_rights : (d : Bool) (order : Option ClassOrder) (t m : Place) (x : LawfulRule) → Same (lay MinimalRights (layered d order t m x)) (layered d order t (laid order m) x)
+  press_rights d None t Absent x = rights_so_truncation (is_outer t) (lay_so (is_inner t) Truncation (lay_so d Dual x))
+  press_rights d None t Inner x =
       let below = lay_so (is_inner t) Truncation (lay_so d Dual x) in
       follow (rights_so_truncation (is_outer t) (lay MinimalRights below)) (under_so (is_outer t) Truncation (rights_rights below))
-  press_rights d Unordered t Outer x = rights_rights (lay_so (is_outer t) Truncation (lay_so (is_inner t) Truncation (lay_so d Dual x)))
-  press_rights d SeniorFirst t Absent x = same
-  press_rights d SeniorFirst t Inner x =
+  press_rights d None t Outer x = rights_rights (lay_so (is_outer t) Truncation (lay_so (is_inner t) Truncation (lay_so d Dual x)))
+  press_rights d (Some SeniorFirst) t Absent x = same
+  press_rights d (Some SeniorFirst) t Inner x =
       let below = lay_so (is_inner t) Truncation (lay_so d Dual x) in
       follow (rights_so_truncation (is_outer t) (lay Seniority (lay MinimalRights below))) (under_so (is_outer t) Truncation (outer_rights Seniority refl below))
-  press_rights d SeniorFirst t Outer x = rights_rights (lay_so (is_outer t) Truncation (lay Seniority (lay_so (is_inner t) Truncation (lay_so d Dual x))))
-  press_rights d JuniorFirst t Absent x = same
-  press_rights d JuniorFirst t Inner x =
+  press_rights d (Some SeniorFirst) t Outer x = rights_rights (lay_so (is_outer t) Truncation (lay Seniority (lay_so (is_inner t) Truncation (lay_so d Dual x))))
+  press_rights d (Some JuniorFirst) t Absent x = same
+  press_rights d (Some JuniorFirst) t Inner x =
       let below = lay_so (is_inner t) Truncation (lay_so d Dual x) in
       follow (rights_so_truncation (is_outer t) (lay ReverseSeniority (lay MinimalRights below))) (under_so (is_outer t) Truncation (outer_rights ReverseSeniority refl below))
-  press_rights d JuniorFirst t Outer x = rights_rights (lay_so (is_outer t) Truncation (lay ReverseSeniority (lay_so (is_inner t) Truncation (lay_so d Dual x))))
+  press_rights d (Some JuniorFirst) t Outer x = rights_rights (lay_so (is_outer t) Truncation (lay ReverseSeniority (lay_so (is_inner t) Truncation (lay_so d Dual x))))
 
   -- outer letters and inner ones side by side
   gathered : (t m : Place) (z : LawfulRule) → Same (lay_so (is_outer m) MinimalRights (lay_so (is_outer t) Truncation (lay_so (is_inner m) MinimalRights (lay_so (is_inner t) Truncation z)))) (lay_so (is_inner (enclosed m)) MinimalRights (lay_so (is_inner (enclosed t)) Truncation z))
@@ -310,7 +310,7 @@ module _ (classes : List ℕ) (classed : Classed classes) where
   none_outside Inner o x = same
   none_outside Outer o x = same
 
-  press_order : (o : Operator) → is_seniority o ≡ true → (d : Bool) (order : Order) (t m : Place) (x : LawfulRule) → Same (lay o (layered d order t m x)) (lay_so (is_outer (enclosed m)) MinimalRights (lay_so (is_outer (enclosed t)) Truncation (lay o (inner d (enclosed t) (enclosed m) x))))
+  press_order : (o : Operator) → is_seniority o ≡ true → (d : Bool) (order : Option ClassOrder) (t m : Place) (x : LawfulRule) → Same (lay o (layered d order t m x)) (lay_so (is_outer (enclosed m)) MinimalRights (lay_so (is_outer (enclosed t)) Truncation (lay o (inner d (enclosed t) (enclosed m) x))))
   press_order o e d order t m x =
       follow (under_seniority o e (class_so_rights (is_outer m) (class_so_truncation (is_outer t) (class_so_order order (inner d t m x)))))
       (follow (under o (gathered t m (lay_so d Dual x)))

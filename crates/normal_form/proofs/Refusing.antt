@@ -1,11 +1,11 @@
 -- The refusal due for a pile is the smallest that applies, and a pile that is not refused has a sound problem and a
 -- class list of classes from 1 to 8. Assumes nothing.
-use Rattle.std.proofs.Common.{◌≡◌, ℕ, Bool, true, false, cond, not, eqb, ltb, List, [], ◌∷◌, ◌++◌, length, is_some, Some, None, Ok, Err, Option, unwrap_or, sym, refl, ap, ◌∙◌, inl, inr, arith}
+use Rattle.std.proofs.Common.{◌≡◌, ℕ, Bool, true, false, cond, not, eqb, ltb, List, [], ◌∷◌, ◌++◌, length, is_some, Some, None, Ok, Option, unwrap_or, sym, refl, ap, ◌∙◌, inl, inr, arith}
 use Rattle.std.proofs.lemmas.Bool.{ltb-true, lt-ltb, ne_eqb, eqb-false, not-true, not_from_false, cases_Bool}
 use Rattle.std.proofs.lemmas.Bool.Decides.{nat_tests}
 use Rattle.division.specs.Amounts.{total}
 use Rattle.division.specs.Problem.{most_claims, most_total}
-use Rattle.division.specs.Refusals.{Stands, SmallestOf, due, first_due, answer}
+use Rattle.division.specs.Refusals.{Stands, SmallestOf, due, first_due}
 use Rattle.division.specs.declared.refusal.RuleRefusal.TheVariants.{TooManyClaims, AwardListLength, TotalAboveLimit, EstateAboveTotal}
 use Rattle.division.proofs.Smallest.{Honest, smallest_of}
 use Rattle.operators.specs.Operators.{Classed}
@@ -13,7 +13,6 @@ use Rattle.operators.specs.Classes.{all_classed}
 use Rattle.operators.specs.ClassListLaws.{classed_if_tested, tested_if_classed}
 use Rattle.operators.specs.declared.classes.ClassRefusal.TheVariants.{ClassOutsideRange}
 use Rattle.normal_form.specs.declared.letter.Operator.{Operator}
-use Rattle.normal_form.specs.declared.letter.LetterRefusal.{LetterRefusal}
 use Rattle.normal_form.specs.declared.letter.LetterRefusal.TheVariants.{UnknownLetter}
 use Rattle.normal_form.specs.Forms.{Parts, normal_form}
 use Rattle.normal_form.specs.FormParts.{known_form}
@@ -114,37 +113,12 @@ module _ (classes claims : List ℕ) (estate room : ℕ) where
   pub passes_classed : pile_due true classes claims estate room ≡ None → Classed classes
   passes_classed none = classed_if_tested classes (grind (arith, nat_tests))
 
-  -- what is refused with known letters is refused with any
-  pub still_refused : (known : Bool) (e : PileRefusal) → pile_due true classes claims estate room ≡ Some e → pile_due known classes claims estate room ≡ Some e
-  still_refused known e due_e = letters_last known ∙ ap (λ o. or_else o (cond known None (Some (Letter UnknownLetter)))) due_e
-
-  -- what passes with known letters is refused for the letters alone
-  pub letters_refused : (known : Bool) → known ≡ false → pile_due true classes claims estate room ≡ None → pile_due known classes claims estate room ≡ Some (Letter UnknownLetter)
-  letters_refused known unknown none =
-      letters_last known ∙ ap (λ o. or_else o (cond known None (Some (Letter UnknownLetter)))) none ∙ ap (λ k. cond k None (Some (Letter UnknownLetter))) unknown
-
+  -- what passes with known letters passes
   pub letters_pass : (known : Bool) → known ≡ true → pile_due true classes claims estate room ≡ None → pile_due known classes claims estate room ≡ None
   letters_pass known all none =
       letters_last known ∙ ap (λ o. or_else o (cond known None (Some (Letter UnknownLetter)))) none ∙ ap (λ k. cond k None (Some (Letter UnknownLetter))) all
 
--- what an answer says of the refusal due
-pub due_if_err : {R X : Type 0} (o : Option R) (x : X) (e : R) → Err e ≡ answer o x → o ≡ Some e
-due_if_err None x e is = let z : ◌≡◌ {A = ℕ} 0 1 = cc in absurd (omega arith)
-due_if_err (Some f) x e is = cc
-
-pub none_due_if_ok : {R X : Type 0} (o : Option R) (x y : X) → Ok y ≡ answer o x → o ≡ None
-none_due_if_ok None x y is = refl
-none_due_if_ok (Some f) x y is = let z : ◌≡◌ {A = ℕ} 0 1 = cc in absurd (omega arith)
-
 -- what reading letters as a form says of them
-pub unknown_if_err : (read : Option (List Operator)) (e : LetterRefusal) → Err e ≡ known_form read → is_some read ≡ false
-unknown_if_err None e is = refl
-unknown_if_err (Some ops) e is = let z : ◌≡◌ {A = ℕ} 0 1 = cc in absurd (omega arith)
-
-pub refusal_if_err : (read : Option (List Operator)) (e : LetterRefusal) → Err e ≡ known_form read → e ≡ UnknownLetter
-refusal_if_err None e is = cc
-refusal_if_err (Some ops) e is = let z : ◌≡◌ {A = ℕ} 0 1 = cc in absurd (omega arith)
-
 pub known_if_ok : (read : Option (List Operator)) (p : Parts) → Ok p ≡ known_form read → (is_some read ≡ true) × (p ≡ normal_form (unwrap_or read []))
 known_if_ok None p is = let z : ◌≡◌ {A = ℕ} 0 1 = cc in absurd (omega arith)
 known_if_ok (Some ops) p is = (refl, cc)

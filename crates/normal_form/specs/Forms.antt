@@ -4,8 +4,8 @@ use Rattle.std.specs.Prelude.{◌≡◌, ℕ, Bool, true, false, cond, not, ◌&
 use Rattle.std.specs.List.{flat_map}
 use Rattle.normal_form.specs.declared.letter.Operator.{Operator}
 use Rattle.normal_form.specs.declared.letter.Operator.TheVariants.{Dual, Truncation, MinimalRights, Seniority, ReverseSeniority}
-use Rattle.normal_form.specs.declared.form.Order.{Order}
-use Rattle.normal_form.specs.declared.form.Order.TheVariants.{Unordered, SeniorFirst, JuniorFirst}
+use Rattle.operators.specs.declared.classes.ClassOrder.{ClassOrder}
+use Rattle.operators.specs.declared.classes.ClassOrder.TheVariants.{SeniorFirst, JuniorFirst}
 use Rattle.normal_form.specs.declared.form.Place.{Place}
 use Rattle.normal_form.specs.declared.form.Place.TheVariants.{Absent, Inner, Outer}
 
@@ -13,20 +13,20 @@ use Rattle.normal_form.specs.declared.form.Place.TheVariants.{Absent, Inner, Out
 -- or outside it
 pub record Parts : Type 0 where
   pub dual : Bool
-  pub order : Order
+  pub order : Option ClassOrder
   pub truncation : Place
   pub rights : Place
 
 -- a place that may stand beside a seniority letter, or beside none: without one, nothing lies outside
-abbrev pub fits_beside : Order → Place → Bool
-fits_beside Unordered Absent = true
-fits_beside Unordered Inner = true
-fits_beside Unordered Outer = false
-fits_beside SeniorFirst place = true
-fits_beside JuniorFirst place = true
+abbrev pub fits_beside : Option ClassOrder → Place → Bool
+fits_beside None Absent = true
+fits_beside None Inner = true
+fits_beside None Outer = false
+fits_beside (Some SeniorFirst) place = true
+fits_beside (Some JuniorFirst) place = true
 
 -- both places may stand beside the seniority letter
-abbrev pub well_placed : Order → Place → Place → Bool
+abbrev pub well_placed : Option ClassOrder → Place → Place → Bool
 well_placed order truncation rights = fits_beside order truncation && fits_beside order rights
 
 -- parts that a form may have
@@ -35,16 +35,16 @@ WellPlaced p = well_placed p.order p.truncation p.rights ≡ true
 
 -- the form of no letters
 abbrev pub no_letters : Parts
-no_letters = record { dual = false; order = Unordered; truncation = Absent; rights = Absent }
+no_letters = record { dual = false; order = None; truncation = Absent; rights = Absent }
 
 -- where a new t or m lies: inside if there is no seniority letter, outside if there is one
-abbrev pub newcomer : Order → Place
-newcomer Unordered = Inner
-newcomer SeniorFirst = Outer
-newcomer JuniorFirst = Outer
+abbrev pub newcomer : Option ClassOrder → Place
+newcomer None = Inner
+newcomer (Some SeniorFirst) = Outer
+newcomer (Some JuniorFirst) = Outer
 
 -- where t or m lies after it is pressed: where it was, or as a newcomer
-abbrev pub laid : Order → Place → Place
+abbrev pub laid : Option ClassOrder → Place → Place
 laid order Absent = newcomer order
 laid order Inner = Inner
 laid order Outer = Outer
@@ -56,18 +56,18 @@ enclosed Inner = Inner
 enclosed Outer = Inner
 
 -- s for r and r for s
-abbrev pub reversed : Order → Order
-reversed Unordered = Unordered
-reversed SeniorFirst = JuniorFirst
-reversed JuniorFirst = SeniorFirst
+abbrev pub reversed : Option ClassOrder → Option ClassOrder
+reversed None = None
+reversed (Some SeniorFirst) = Some JuniorFirst
+reversed (Some JuniorFirst) = Some SeniorFirst
 
 -- pressing a letter on a form: what the letter does to it
 abbrev pub pressed : Parts → Operator → Parts
 pressed p Dual = record { dual = not p.dual; order = reversed p.order; truncation = p.rights; rights = p.truncation }
 pressed p Truncation = record { dual = p.dual; order = p.order; truncation = laid p.order p.truncation; rights = p.rights }
 pressed p MinimalRights = record { dual = p.dual; order = p.order; truncation = p.truncation; rights = laid p.order p.rights }
-pressed p Seniority = record { dual = p.dual; order = SeniorFirst; truncation = enclosed p.truncation; rights = enclosed p.rights }
-pressed p ReverseSeniority = record { dual = p.dual; order = JuniorFirst; truncation = enclosed p.truncation; rights = enclosed p.rights }
+pressed p Seniority = record { dual = p.dual; order = Some SeniorFirst; truncation = enclosed p.truncation; rights = enclosed p.rights }
+pressed p ReverseSeniority = record { dual = p.dual; order = Some JuniorFirst; truncation = enclosed p.truncation; rights = enclosed p.rights }
 
 -- what letters pressed in turn do to a form
 abbrev pub pressed_in_turn : Parts → List Operator → Parts
@@ -100,10 +100,10 @@ is_outer Inner = false
 is_outer Outer = true
 
 -- the seniority letter
-abbrev pub seniority_letter : Order → List Operator
-seniority_letter Unordered = []
-seniority_letter SeniorFirst = Seniority ∷ []
-seniority_letter JuniorFirst = ReverseSeniority ∷ []
+abbrev pub seniority_letter : Option ClassOrder → List Operator
+seniority_letter None = []
+seniority_letter (Some SeniorFirst) = Seniority ∷ []
+seniority_letter (Some JuniorFirst) = ReverseSeniority ∷ []
 
 -- the letters of a form: d, inner t, inner m, the seniority letter, outer t, outer m, without what is absent
 abbrev pub letters_of : Parts → List Operator
@@ -133,16 +133,16 @@ abbrev pub written : Parts → List ℕ
 written p = or_hyphen (map byte_of (letters_of p))
 
 -- the forms with one answer for d, one seniority letter and some places to choose from
-abbrev pub forms_beside : Bool → Order → List Place → List Parts
+abbrev pub forms_beside : Bool → Option ClassOrder → List Place → List Parts
 forms_beside dual order places =
     flat_map (λ truncation. map (λ rights. record { dual = dual; order = order; truncation = truncation; rights = rights }) places) places
 
 -- the forms with one answer for d
 abbrev pub forms_with : Bool → List Parts
 forms_with dual =
-    forms_beside dual Unordered (Absent ∷ Inner ∷ [])
-    ++ (forms_beside dual SeniorFirst (Absent ∷ Inner ∷ Outer ∷ [])
-    ++ forms_beside dual JuniorFirst (Absent ∷ Inner ∷ Outer ∷ []))
+    forms_beside dual None (Absent ∷ Inner ∷ [])
+    ++ (forms_beside dual (Some SeniorFirst) (Absent ∷ Inner ∷ Outer ∷ [])
+    ++ forms_beside dual (Some JuniorFirst) (Absent ∷ Inner ∷ Outer ∷ []))
 
 -- all forms
 abbrev pub all_forms : List Parts

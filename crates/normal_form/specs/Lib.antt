@@ -1,7 +1,6 @@
 pub mod Letters
 pub mod Forms
 pub mod FormParts
-pub mod FormText
 pub mod Alike
 pub mod Laws
 pub mod Comparing

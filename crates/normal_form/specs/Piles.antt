@@ -1,5 +1,5 @@
 -- Applying a string of letters to a rule: which refusal is due, and its number. Assumes nothing.
-use Rattle.std.specs.Prelude.{◌≡◌, ℕ, Bool, true, not, List, [], ◌∷◌, length, is_some, Option, ◌==◌, nat_lt}
+use Rattle.std.specs.Prelude.{◌≡◌, ℕ, Bool, true, not, List, [], ◌∷◌, length, is_some, None, Option, ◌==◌, nat_lt}
 use Rattle.std.specs.Option.{unwrap_or}
 use Rattle.division.specs.Amounts.{total}
 use Rattle.division.specs.Problem.{most_claims, most_total}
@@ -51,3 +51,12 @@ all_letters letters = is_some (letters_in letters)
 -- the operators that a string of letters names, in the order of the letters
 abbrev pub operators_in : List ℕ → List Operator
 operators_in letters = unwrap_or (letters_in letters) []
+
+-- what is asked once no refusal is due: the classes, the claims and the estate that were handed in, with a place for each
+-- claim
+pub record AskedIs (classes claims : List ℕ) (estate room : ℕ) (asked_classes asked_claims : List ℕ) (asked_estate : ℕ) : Type 0 where
+  pub classes_is : asked_classes ≡ classes
+  pub claims_is : asked_claims ≡ claims
+  pub estate_is : asked_estate ≡ estate
+  pub room_is : room ≡ length claims
+  pub none : pile_due true classes claims estate room ≡ None

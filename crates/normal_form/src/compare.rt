@@ -6,7 +6,7 @@ use crate::form::Form;
 use crate::letter::LetterRefusal;
 
 // The normal form that two strings have in common, or their two forms where they differ.
-#[derive(Clone, Copy, Debug)]
+#[derive(Clone, Copy, Debug, PartialEq, Eq)]
 pub enum Comparison {
     Same(Form),
     Differ(Form, Form),

@@ -2,19 +2,14 @@
 ghost use Rattle.std.specs.Prelude.{◌≡◌, true};
 ghost use Rattle.normal_form.specs.Forms.{well_placed};
 
+use operators::classes::ClassOrder;
+
 pub(crate) mod layers;
 pub mod press;
 pub mod text;
 
-// The seniority letter of a form: none, s or r.
-#[derive(Clone, Copy, Debug, PartialEq, Eq)]
-pub enum Order {
-    Unordered,
-    SeniorFirst,
-    JuniorFirst,
-}
-
-// Where t or m lies in a form: not at all, inside the seniority letter, or outside it.
+// Where t or m lies in a form: not at all, inside the seniority letter, or outside it. Three plain cases, each a pattern of
+// `press`: Some(Side::Inner) for Inner would be no plainer.
 #[derive(Clone, Copy, Debug, PartialEq, Eq)]
 pub enum Place {
     Absent,
@@ -22,11 +17,11 @@ pub enum Place {
     Outer,
 }
 
-// Without a seniority letter, nothing lies outside.
-#[derive(Clone, Copy, Debug)]
+// The order is that of the seniority letter, if there is one. Without a seniority letter, nothing lies outside.
+#[derive(Clone, Copy, Debug, PartialEq, Eq)]
 pub struct Form {
     dual: bool,
-    order: Order,
+    order: Option<ClassOrder>,
     truncation: Place,
     rights: Place,
     ghost placed: { well_placed order truncation rights ≡ true },

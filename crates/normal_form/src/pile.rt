@@ -1,25 +1,27 @@
 // Applying a string of letters to a rule. A pile is such a string: the first letter lies next to the rule, the last is
 // outermost.
-ghost use Rattle.std.specs.Prelude.{◌≡◌, true, length, Some, None, MatchResult};
+ghost use Rattle.std.specs.Prelude.{◌≡◌, true, length, Some, MatchResult, decimal};
 ghost use Rattle.division.specs.Refusals.{SmallestOf, answer, unless_due};
 ghost use Rattle.normal_form.specs.declared.pile.PileRefusal.TheVariants.{Rule as OfRule, Class as OfClass, Letter as OfLetter};
 ghost use Rattle.normal_form.specs.Letters.{applied};
-ghost use Rattle.normal_form.specs.Forms.{letters_of, normal_form};
+ghost use Rattle.normal_form.specs.Forms.{letters_of};
 ghost use Rattle.normal_form.specs.FormParts.{parts};
 ghost use Rattle.normal_form.specs.Laws.{LawfulUnderLetters};
-ghost use Rattle.normal_form.specs.Piles.{pile_number, PileApplies, pile_due, all_letters, operators_in};
+ghost use Rattle.normal_form.specs.Piles.{pile_number, PileApplies, AskedIs, pile_due, all_letters, operators_in};
 
 use crate::form::Form;
-use crate::form::layers::under_form;
+use crate::form::layers::{ClassedProblem, under_form};
 use crate::letter::LetterRefusal;
-use division::problem::{MOST_CLAIMS, check};
+use division::problem::{MOST_CLAIMS, Problem};
 use division::refusal::RuleRefusal;
 use division::rule::Rule;
 use operators::classes::{ClassRefusal, check_classes};
+use std::error::Error;
+use std::fmt;
 
 // Why a pile is not applied. A class list that is not as long as the claims bears the number of an award list that is
 // not.
-#[derive(Clone, Copy, Debug)]
+#[derive(Clone, Copy, Debug, PartialEq, Eq)]
 pub enum PileRefusal {
     Rule(RuleRefusal),
     ClassListLength,
@@ -32,6 +34,7 @@ impl PileRefusal {
     pub fn number(&self) -> u8
         ensures result { result ≡ pile_number self.now }
     {
+        // A match and not the variants' own numbers, since three of them bring a number with them.
         match self {
             PileRefusal::Rule(refusal) => refusal.number(),
             PileRefusal::ClassListLength => 2,
@@ -40,6 +43,16 @@ impl PileRefusal {
         }
     }
 }
+
+impl fmt::Display for PileRefusal {
+    ghost output = { λ refusal. Some (decimal (pile_number refusal)) };
+
+    fn fmt<W: fmt::Write>(&self, f: &mut fmt::Formatter<W>) -> fmt::Result {
+        self.number().fmt(f)
+    }
+}
+
+impl Error for PileRefusal {}
 
 impl From<RuleRefusal> for PileRefusal {
     ghost from_gives = { λ e r. r ≡ OfRule e };
@@ -65,32 +78,22 @@ impl From<LetterRefusal> for PileRefusal {
     }
 }
 
-// The refusal due where every letter is known. The length of the class list is tested where that of the award list is,
-// before what the claims add up to.
-fn check_pile(classes: &[u8], claims: &[u32], estate: u32, room: usize) -> Result<(), PileRefusal>
-    ensures result { result ≡ answer (pile_due true classes.now claims.now estate room) tt }
+// The problem with its classes, or the refusal due where every letter is known. The length of the class list is tested
+// where that of the award list is, before what the claims add up to.
+fn check_pile<'a>(
+    classes: &'a [u8],
+    claims: &'a [u32],
+    estate: u32,
+    room: usize,
+) -> Result<ClassedProblem<'a>, PileRefusal>
+    ensures result { MatchResult result (λ asked. AskedIs classes.now claims.now estate room asked.classes.now asked.problem.claims.now asked.problem.estate) (λ e. pile_due true classes.now claims.now estate room ≡ Some e) }
 {
     if claims.len() <= MOST_CLAIMS && room == claims.len() && classes.len() != claims.len() {
         return Err(PileRefusal::ClassListLength);
     }
-    check(claims, estate, room)?;
+    let problem = Problem::new(claims, estate, room)?;
     check_classes(classes)?;
-    Ok(())
-}
-
-// The normal form of the letters where no refusal is due, and else the refusal due. The letters are tested last.
-fn read_pile(
-    letters: &[u8],
-    classes: &[u8],
-    claims: &[u32],
-    estate: u32,
-    room: usize,
-) -> Result<Form, PileRefusal>
-    ensures result { MatchResult result (λ form. (pile_due (all_letters letters.now) classes.now claims.now estate room ≡ None) × (pile_due true classes.now claims.now estate room ≡ None) × (parts form ≡ normal_form (operators_in letters.now))) (λ e. pile_due (all_letters letters.now) classes.now claims.now estate room ≡ Some e) }
-{
-    check_pile(classes, claims, estate, room)?;
-    let form = Form::of(letters)?;
-    Ok(form)
+    Ok(ClassedProblem { problem, classes })
 }
 
 // Divides by the rule under the letters of a form.
@@ -106,8 +109,8 @@ pub fn apply_form<R: Rule>(
     ensures awards { out.new ≡ unless_due (pile_due true classes.now claims.now estate (length out.old)) (applied (letters_of (parts form.now)) classes.now (R.Rule.awards rule.now) claims.now estate) out.old }
     ensures smallest { SmallestOf pile_number (PileApplies true classes.now claims.now estate (length out.old)) (pile_due true classes.now claims.now estate (length out.old)) }
 {
-    check_pile(classes, claims, estate, out.len())?;
-    under_form(form, rule, classes, claims, estate, out)?;
+    let asked = check_pile(classes, claims, estate, out.len())?;
+    under_form(form, rule, &asked, out)?;
     Ok(())
 }
 
@@ -126,7 +129,9 @@ pub fn apply<R: Rule>(
     ensures smallest { SmallestOf pile_number (PileApplies (all_letters letters.now) classes.now claims.now estate (length out.old)) (pile_due (all_letters letters.now) classes.now claims.now estate (length out.old)) }
     ensures lawful { LawfulUnderLetters }
 {
-    let form = read_pile(letters, classes, claims, estate, out.len())?;
-    under_form(&form, rule, classes, claims, estate, out)?;
+    let asked = check_pile(classes, claims, estate, out.len())?;
+    // The letters are tested last.
+    let form = Form::of(letters)?;
+    under_form(&form, rule, &asked, out)?;
     Ok(())
 }

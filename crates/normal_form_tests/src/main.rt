@@ -2,11 +2,7 @@
 // letters one by one (tests/plain_letters.py); and tests refusals in their order.
 #![tactic(auto)]
 
-use division::equal_awards::EqualAwards;
-use division::priority::Priority;
-use division::proportion::Proportion;
-use division::rule::Rule;
-use division::talmud::Talmud;
+use division::base_rule::BaseRule;
 use normal_form::pile::apply;
 use std::io;
 
@@ -37,47 +33,40 @@ const CLASSES: [u8; 5] = [2, 1, 8, 2, 1];
 
 const ESTATES: [u32; 5] = [0, 9, 36, 60, 73];
 
-fn show<R: Rule>(
-    rt: &HostRuntime,
-    name: &str,
-    rule: &R,
-    letters: &str,
-    estate: u32,
-) -> io::Result<()> {
+const RULES: [BaseRule; 4] = [
+    BaseRule::Priority,
+    BaseRule::Equal,
+    BaseRule::Proportion,
+    BaseRule::Talmud,
+];
+
+fn show(rt: &HostRuntime, rule: BaseRule, letters: &str, estate: u32) -> io::Result<()> {
     let mut awards = [0; 5];
     match apply(
         letters.as_bytes(),
-        rule,
+        &rule,
         &CLASSES,
         &CLAIMS,
         estate,
         &mut awards,
     ) {
         Ok(()) => {
-            print!(rt; "{name},{letters},{estate}:")?;
-            for award in awards.iter() {
+            print!(rt; "{rule},{letters},{estate}:")?;
+            for award in awards {
                 print!(rt; " {award}")?;
             }
             println!(rt; "")
         }
-        Err(refusal) => {
-            let number = refusal.number();
-            println!(rt; "{name},{letters},{estate}: refused {number}")
-        }
+        Err(refusal) => println!(rt; "{rule},{letters},{estate}: refused {refusal}"),
     }
-}
-
-fn show_rules(rt: &HostRuntime, letters: &str, estate: u32) -> io::Result<()> {
-    show(rt, "priority", &Priority, letters, estate)?;
-    show(rt, "equal", &EqualAwards, letters, estate)?;
-    show(rt, "proportion", &Proportion, letters, estate)?;
-    show(rt, "talmud", &Talmud, letters, estate)
 }
 
 fn main(rt: HostRuntime) -> io::Result<()> {
     for letters in LETTERS {
         for estate in ESTATES {
-            show_rules(&rt, letters, estate)?;
+            for rule in RULES {
+                show(&rt, rule, letters, estate)?;
+            }
         }
     }
     Ok(())
@@ -86,11 +75,14 @@ fn main(rt: HostRuntime) -> io::Result<()> {
 #[cfg(test)]
 mod tests {
     use super::*;
+    use division::priority::Priority;
+    use division::rule::Rule;
+    use division::talmud::Talmud;
     use division_tests::Ballot;
     use std::process::Abort;
     use std::test::Fail;
 
-    // What the call answers: 0 for work done, and else the refusal's number, with the list checked to be as it was.
+    // What the call answers, a refusal by its number, with the list checked to be as it was then.
     fn answered<R: Rule>(
         rt: &(impl Abort + AllocGlobal),
         rule: &R,
@@ -99,14 +91,14 @@ mod tests {
         claims: &[u32],
         estate: u32,
         room: usize,
-    ) -> Result<u8, Fail> {
+    ) -> Result<Result<(), u8>, Fail> {
         let mut out = vec![in rt.alloc(); 7u32; room]?;
         let before = vec![in rt.alloc(); 7u32; room]?;
         match apply(letters.as_bytes(), rule, classes, claims, estate, &mut out) {
-            Ok(()) => Ok(0),
+            Ok(()) => Ok(Ok(())),
             Err(refusal) => {
                 assert!(rt; out.as_slice() == before.as_slice());
-                Ok(refusal.number())
+                Ok(Err(refusal.number()))
             }
         }
     }
@@ -116,29 +108,59 @@ mod tests {
         let big = 4_294_967_295;
         assert_eq!(rt;
             answered(&rt, &Talmud, "q", &[0; 3], &[big; 65], big, 2)?,
-            1
+            Err(1)
         );
         assert_eq!(rt;
             answered(&rt, &Talmud, "q", &[0; 3], &[big; 64], big, 2)?,
-            2
+            Err(2)
         );
-        assert_eq!(rt; answered(&rt, &Talmud, "q", &[0; 3], &[big; 2], big, 2)?, 2);
-        assert_eq!(rt; answered(&rt, &Talmud, "q", &[0; 2], &[big; 2], big, 2)?, 3);
-        assert_eq!(rt; answered(&rt, &Talmud, "q", &[0; 2], &[5; 2], big, 2)?, 4);
-        assert_eq!(rt; answered(&rt, &Talmud, "q", &[0; 2], &[5; 2], 5, 2)?, 5);
-        assert_eq!(rt; answered(&rt, &Talmud, "q", &[1; 2], &[5; 2], 5, 2)?, 7);
-        assert_eq!(rt; answered(&rt, &Talmud, "sdt", &[1; 2], &[5; 2], 5, 2)?, 0);
+        assert_eq!(rt;
+            answered(&rt, &Talmud, "q", &[0; 3], &[big; 2], big, 2)?,
+            Err(2)
+        );
+        assert_eq!(rt;
+            answered(&rt, &Talmud, "q", &[0; 2], &[big; 2], big, 2)?,
+            Err(3)
+        );
+        assert_eq!(rt;
+            answered(&rt, &Talmud, "q", &[0; 2], &[5; 2], big, 2)?,
+            Err(4)
+        );
+        assert_eq!(rt;
+            answered(&rt, &Talmud, "q", &[0; 2], &[5; 2], 5, 2)?,
+            Err(5)
+        );
+        assert_eq!(rt;
+            answered(&rt, &Talmud, "q", &[1; 2], &[5; 2], 5, 2)?,
+            Err(7)
+        );
+        assert_eq!(rt;
+            answered(&rt, &Talmud, "sdt", &[1; 2], &[5; 2], 5, 2)?,
+            Ok(())
+        );
         Ok(())
     }
 
     #[test]
     fn class_lists(rt: HostRuntime) -> Result<(), Fail> {
-        assert_eq!(rt; answered(&rt, &Priority, "s", &[1], &[5; 2], 5, 2)?, 2);
-        assert_eq!(rt; answered(&rt, &Priority, "s", &[1; 3], &[5; 2], 5, 2)?, 2);
-        assert_eq!(rt; answered(&rt, &Priority, "", &[1, 0], &[5; 2], 5, 2)?, 5);
-        assert_eq!(rt; answered(&rt, &Priority, "", &[9, 1], &[5; 2], 5, 2)?, 5);
-        assert_eq!(rt; answered(&rt, &Priority, "", &[8, 1], &[5; 2], 5, 2)?, 0);
-        assert_eq!(rt; answered(&rt, &Priority, "ss", &[], &[], 0, 0)?, 0);
+        assert_eq!(rt; answered(&rt, &Priority, "s", &[1], &[5; 2], 5, 2)?, Err(2));
+        assert_eq!(rt;
+            answered(&rt, &Priority, "s", &[1; 3], &[5; 2], 5, 2)?,
+            Err(2)
+        );
+        assert_eq!(rt;
+            answered(&rt, &Priority, "", &[1, 0], &[5; 2], 5, 2)?,
+            Err(5)
+        );
+        assert_eq!(rt;
+            answered(&rt, &Priority, "", &[9, 1], &[5; 2], 5, 2)?,
+            Err(5)
+        );
+        assert_eq!(rt;
+            answered(&rt, &Priority, "", &[8, 1], &[5; 2], 5, 2)?,
+            Ok(())
+        );
+        assert_eq!(rt; answered(&rt, &Priority, "ss", &[], &[], 0, 0)?, Ok(()));
         Ok(())
     }
 
@@ -146,7 +168,10 @@ mod tests {
     #[test]
     fn a_strangers_rule(rt: HostRuntime) -> Result<(), Fail> {
         let mut rule = Ballot::new(Vec::new(rt.alloc()));
-        assert_eq!(rt; answered(&rt, &rule, "tdsm", &[1, 2], &[5, 5], 5, 2)?, 0);
+        assert_eq!(rt;
+            answered(&rt, &rule, "tdsm", &[1, 2], &[5, 5], 5, 2)?,
+            Ok(())
+        );
         rule.vote(11)?;
         let mut out = [0; 2];
         let done = apply(b"d", &rule, &[1, 2], &[10, 6], 8, &mut out).is_ok();

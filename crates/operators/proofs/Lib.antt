@@ -4,3 +4,4 @@ pub mod Rights
 pub mod Sums
 pub mod Turns
 pub mod Writes
+pub mod Made

@@ -1,12 +1,10 @@
 -- What the layer of minimal rights hands to the rule below it, and what it makes of the answer. Assumes nothing.
-use Rattle.std.proofs.Common.{◌≡◌, ℕ, ◌+◌, ◌-◌, ◌≤◌, List, length, take, sym, ap, ◌∙◌, subst, arith}
+use Rattle.std.proofs.Common.{◌≡◌, ℕ, ◌+◌, ◌-◌, ◌≤◌, List, length, sym, ap, ◌∙◌, subst, arith}
 use Rattle.division.specs.Amounts.{total, less, cut, plus}
 use Rattle.division.specs.AmountLaws.{length-less}
 use Rattle.division.specs.Problem.{Sound, Meaning, Lawful, most_total}
-use Rattle.division.specs.Refusals.{Passed}
 use Rattle.operators.specs.Operators.{rights, minimal_rights}
 use Rattle.operators.specs.RightsLawful.{length-rights, rights_fit, rest_sound, rest_cut}
-use Rattle.operators.proofs.Problems.{front}
 
 -- the rights, what they add up to, and what is left of the claims; the rest is a sound problem
 pub record Parted (claims : List ℕ) (estate room : ℕ) (own : List ℕ) (own_total : ℕ) (rest : List ℕ) : Type 0 where
@@ -17,23 +15,19 @@ pub record Parted (claims : List ℕ) (estate room : ℕ) (own : List ℕ) (own_
   pub rest_sound : Sound rest (estate - own_total)
   pub room_is : room ≡ length rest
 
--- the front of the scratch list of rights
-pub own_front : (claims : List ℕ) (estate room sum : ℕ) (own : List ℕ) → Passed claims estate room sum → take (length claims) own ≡ rights (sum - estate) claims → take (length claims - 0) own ≡ rights (total claims - estate) claims
-own_front claims estate room sum own p filled = front own _ (length claims) (filled ∙ ap (λ n. rights (n - estate) claims) p.sum_is)
-
-pub parted : (claims : List ℕ) (estate room sum : ℕ) (own : List ℕ) (own_total : ℕ) (rest : List ℕ) → Passed claims estate room sum → take (length claims) own ≡ rights (sum - estate) claims → own_total ≡ total (take (length claims - 0) own) → take (length claims) rest ≡ cut (sum - estate) claims → Parted claims estate room (take (length claims - 0) own) own_total (take (length claims - 0) rest)
-parted claims estate room sum own own_total rest p own_filled added rest_filled =
+pub parted : (claims : List ℕ) (estate room loss : ℕ) (own : List ℕ) (own_total : ℕ) (rest : List ℕ) → Sound claims estate → room ≡ length claims → loss ≡ total claims - estate → own ≡ rights loss claims → own_total ≡ total own → rest ≡ cut loss claims → Parted claims estate room own own_total rest
+parted claims estate room loss own own_total rest s room_is loss_is own_made added rest_made =
     let own_rights = rights (total claims - estate) claims in
-    let own_is = own_front claims estate room sum own p own_filled in
+    let own_is : own ≡ own_rights = own_made ∙ ap (λ n. rights n claims) loss_is in
     let total_is : own_total ≡ total own_rights = added ∙ ap total own_is in
-    let rest_is : take (length claims - 0) rest ≡ less claims own_rights = front rest _ (length claims) (rest_filled ∙ ap (λ n. cut (n - estate) claims) p.sum_is ∙ sym (rest_cut (total claims - estate) claims)) in
+    let rest_is : rest ≡ less claims own_rights = rest_made ∙ ap (λ n. cut n claims) loss_is ∙ sym (rest_cut (total claims - estate) claims) in
     record {
       own_is = own_is;
       total_is = total_is;
       rest_is = rest_is;
-      sound = p.sound;
-      rest_sound = subst (λ n. Sound (take (length claims - 0) rest) (estate - n)) (sym total_is) (subst (λ xs. Sound xs (estate - total own_rights)) (sym rest_is) (rest_sound claims estate p.sound));
-      room_is = omega (arith, ap length rest_is, length-less claims own_rights, p.room_is);
+      sound = s;
+      rest_sound = subst (λ n. Sound rest (estate - n)) (sym total_is) (subst (λ xs. Sound xs (estate - total own_rights)) (sym rest_is) (rest_sound claims estate s));
+      room_is = omega (arith, ap length rest_is, length-less claims own_rights, room_is);
     }
 
 module _ {claims : List ℕ} {estate room : ℕ} {own : List ℕ} {own_total : ℕ} {rest : List ℕ} (h : Parted claims estate room own own_total rest) where

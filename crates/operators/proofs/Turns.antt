@@ -1,17 +1,12 @@
 -- One class's turn, and the turns of all classes one after the other. Assumes nothing.
-use Rattle.std.proofs.Common.{◌≡◌, ℕ, ◌+◌, ◌-◌, ◌<◌, ◌≤◌, min, List, [], ◌∷◌, length, get_or, take, drop, replicate, sym, refl, ap, ◌∙◌, subst, arith, length-take}
-use lib.ListN.{length-replicate}
+use Rattle.std.proofs.Common.{◌≡◌, ℕ, ◌+◌, ◌-◌, ◌<◌, ◌≤◌, min, List, [], ◌∷◌, Ok, Result, length, get_or, drop, replicate, sym, refl, ap, ◌∙◌, subst, arith}
 use Rattle.std.proofs.lemmas.List.{at_drop_more, at_drop_all}
+use Rattle.division.specs.declared.refusal.RuleRefusal.{RuleRefusal}
 use Rattle.division.specs.Amounts.{total, plus, nothing}
 use Rattle.division.specs.AmountLaws.{length-plus, slice_index-plus, total-plus, length-nothing, slice_index-nothing, total-nothing, same_amounts}
-use Rattle.division.specs.Problem.{Sound, Meaning, Lawful, most_claims, most_total}
+use Rattle.division.specs.Problem.{Sound, Meaning, Lawful}
 use Rattle.operators.specs.Operators.{of_class, served}
 use Rattle.operators.specs.ClassLaws.{class_share, class_sound, length-of_class, length-served}
-use Rattle.operators.proofs.Problems.{front}
-
--- the scratch list that takes the rule's answer, before the rule is asked
-abbrev blank : List ℕ → List ℕ
-blank claims = take (length claims - 0) (replicate most_claims 0)
 
 -- the claims of a class and its share, as they are handed to the rule below
 pub record Turn (class : ℕ) (classes claims : List ℕ) (left : ℕ) (mine : List ℕ) (share : ℕ) : Type 0 where
@@ -19,23 +14,15 @@ pub record Turn (class : ℕ) (classes claims : List ℕ) (left : ℕ) (mine : L
   pub share_is : share ≡ class_share class classes claims left
   pub sound : Sound mine share
   pub as_long : length mine ≡ length claims
-  pub room : length (blank claims) ≡ length mine
 
-pub mine_front : (class : ℕ) (classes claims mine : List ℕ) → take (length claims) mine ≡ of_class class classes claims → take (length claims - 0) mine ≡ of_class class classes claims
-mine_front class classes claims mine filled = front mine _ (length claims) filled
-
-pub turn : (class : ℕ) (classes claims : List ℕ) (left : ℕ) (mine : List ℕ) (sum share : ℕ) → length claims ≤ most_claims → total claims ≤ most_total → take (length claims) mine ≡ of_class class classes claims → sum ≡ total (take (length claims - 0) mine) → share ≡ min sum left → Turn class classes claims left (take (length claims - 0) mine) share
-turn class classes claims left mine sum share few small filled added smaller =
-    let mine_is = mine_front class classes claims mine filled in
+pub turn : (class : ℕ) (classes claims : List ℕ) (left : ℕ) (mine : List ℕ) (sum share estate : ℕ) → Sound claims estate → mine ≡ of_class class classes claims → sum ≡ total mine → share ≡ min sum left → Turn class classes claims left mine share
+turn class classes claims left mine sum share estate s mine_is added smaller =
     let share_is : share ≡ class_share class classes claims left = smaller ∙ ap (λ n. min n left) (added ∙ ap total mine_is) in
-    let some : Sound claims 0 = record { few = few; small = small; covered = omega arith } in
-    let as_long = ap length mine_is ∙ length-of_class class classes claims in
     record {
       mine_is = mine_is;
       share_is = share_is;
-      sound = subst (λ n. Sound (take (length claims - 0) mine) n) (sym share_is) (subst (λ xs. Sound xs (class_share class classes claims left)) (sym mine_is) (class_sound class classes claims 0 some left));
-      as_long = as_long;
-      room = omega (arith, length-take {A = ℕ} (length claims - 0) (replicate most_claims 0), length-replicate {A = ℕ} most_claims 0, as_long);
+      sound = subst (λ n. Sound mine n) (sym share_is) (subst (λ xs. Sound xs (class_share class classes claims left)) (sym mine_is) (class_sound class classes claims estate s left));
+      as_long = ap length mine_is ∙ length-of_class class classes claims;
     }
 
 -- what the turn adds is as long as the claims, and adds up to the share
@@ -103,3 +90,7 @@ module _ (order classes : List ℕ) (f : Meaning) (law : Lawful f) (claims : Lis
   so_far_all place held left so past =
       let none = at_drop_all (λ ks. served ks classes f claims left) order place past in
       sym (plus_none_right claims held so.long) ∙ ap (λ xs. plus held xs) (sym none) ∙ so.whole
+
+-- what a turn answers is left
+pub same_left : (answer : Result ℕ RuleRefusal) (left more : ℕ) → answer ≡ Ok left → answer ≡ Ok more → left ≡ more
+same_left answer left more was is = cc

@@ -1,51 +1,45 @@
-// Work on lists of amounts, place by place. No list is longer than a problem may be, so that scratch lists are arrays
-// and nothing allocates.
-ghost use Rattle.std.specs.Prelude.{◌≡◌, ◌+◌, ◌-◌, ◌≤◌, length, take, drop, replicate};
-ghost use Rattle.division.specs.Amounts.{total, less, cut, plus};
-ghost use Rattle.division.specs.AmountLaws.{Within};
-ghost use Rattle.division.specs.Problem.{most_claims, most_total};
+// Work on lists of amounts, place by place. No list is longer than a problem may be, so that none is on the heap.
+ghost use Rattle.std.specs.Prelude.{◌≡◌, ℕ, ◌+◌, ◌≤◌, map, length};
+ghost use Rattle.division.specs.Amounts.{total, cut, plus};
+ghost use Rattle.division.specs.Problem.{most_total};
 ghost use Rattle.operators.specs.Operators.{rights};
 
-use division::problem::MOST_CLAIMS;
+use arrayvec::ArrayVec;
+use division::problem::{MOST_CLAIMS, Problem};
 
-// Each claim less its award, written over the awards.
-pub(crate) fn less_awards(claims: &[u32], awards: &mut [u32])
-    requires long { length awards.old ≡ length claims.now }
-    requires within { Within awards.old claims.now }
-    ensures awards { awards.new ≡ less claims.now awards.old }
+// One amount for each claim of a problem.
+pub(crate) type Amounts = ArrayVec<u32, MOST_CLAIMS>;
+
+// What a function makes of each claim.
+pub(crate) fn of_each<F: Fn(u32) -> u32>(problem: &Problem<'_>, amount: F) -> Amounts
+    requires callable { F.IsAlwaysCallable amount }
+    ensures long { length result.items ≡ length problem.now.claims.now }
+    ensures amounts { (g : ℕ → ℕ) → ((c a : ℕ) → F.post amount c a → a ≡ g c) → result.items ≡ map g problem.now.claims.now }
 {
-    for (place, claim) in claims.iter().enumerate() {
-        awards[place] = *claim - awards[place];
+    let mut amounts = ArrayVec::new();
+    for claim in problem.claims {
+        amounts.push(amount(*claim));
     }
+    amounts
 }
 
-// Each claim cut to at most `most`, in as many places as there are claims, and nothing behind them.
-pub(crate) fn cut_claims(claims: &[u32], most: u32) -> [u32; MOST_CLAIMS]
-    requires few { length claims.now ≤ most_claims }
-    ensures claims { take (length claims.now) result ≡ cut most claims.now }
-    ensures behind { drop (length claims.now) result ≡ replicate (most_claims - length claims.now) 0 }
+// Each claim cut to at most `most`.
+#[tactic(auto, using(crate::proofs::Made::cut_made))]
+pub(crate) fn cut_claims(problem: &Problem<'_>, most: u32) -> Amounts
+    ensures claims { result.items ≡ cut most problem.now.claims.now }
 {
-    let mut all_cut = [0; MOST_CLAIMS];
-    for (place, claim) in claims.iter().enumerate() {
-        all_cut[place] = (*claim).min(most);
-    }
-    all_cut
+    of_each(problem, |claim| claim.min(most))
 }
 
-// The minimal right of each claim, in as many places as there are claims, and nothing behind them.
-pub(crate) fn rights_of(claims: &[u32], loss: u32) -> [u32; MOST_CLAIMS]
-    requires few { length claims.now ≤ most_claims }
-    ensures rights { take (length claims.now) result ≡ rights loss claims.now }
-    ensures behind { drop (length claims.now) result ≡ replicate (most_claims - length claims.now) 0 }
+// The minimal right of each claim.
+#[tactic(auto, using(crate::proofs::Made::rights_made))]
+pub(crate) fn rights_of(problem: &Problem<'_>, loss: u32) -> Amounts
+    ensures rights { result.items ≡ rights loss problem.now.claims.now }
 {
-    let mut own = [0; MOST_CLAIMS];
-    for (place, claim) in claims.iter().enumerate() {
-        own[place] = claim.saturating_sub(loss);
-    }
-    own
+    of_each(problem, |claim| claim.saturating_sub(loss))
 }
 
-// What amounts that came from a sound problem add up to.
+// What amounts that came from a sound problem add up to. With the places, as every sum.
 pub(crate) fn total_of(amounts: &[u32]) -> u32
     requires small { total amounts.now ≤ most_total }
     ensures result { result ≡ total amounts.now }
@@ -63,6 +57,7 @@ pub(crate) fn add_to(amounts: &[u32], awards: &mut [u32])
     requires small { total amounts.now + total awards.old ≤ most_total }
     ensures awards { awards.new ≡ plus amounts.now awards.old }
 {
+    // By place: after iter_mut().zip(amounts) nothing is known of what stands in the awards, so that proof does not close.
     for (place, amount) in amounts.iter().enumerate() {
         awards[place] += *amount;
     }

@@ -3,8 +3,8 @@ ghost use Rattle.std.specs.Prelude.{◌≡◌};
 ghost use Rattle.operators.specs.Operators.{dual};
 ghost use Rattle.operators.specs.DualLawful.{dual_lawful};
 
-use crate::amounts::less_awards;
-use division::problem::check;
+use division::amounts::less_awards;
+use division::problem::Problem;
 use division::refusal::RuleRefusal;
 use division::rule::Rule;
 
@@ -13,6 +13,7 @@ pub struct Dual<R> {
     rule: R,
 }
 
+// Each layer has a `new` and an `into_rule` of its own: that each operator is a generic struct is a rule of the project.
 impl<R> Dual<R> {
     pub fn new(rule: R) -> Self
         ensures result { result.rule ≡ rule }
@@ -34,8 +35,9 @@ impl<R: Rule> Rule for Dual<R> {
     ghost lawful = { λ s. dual_lawful (R.Rule.awards s.rule) (R.Rule.lawful s.rule) };
 
     fn divide(&self, claims: &[u32], estate: u32, out: &mut [u32]) -> Result<(), RuleRefusal> {
-        let total = check(claims, estate, out.len())?;
-        self.rule.divide(claims, total - estate, out)?;
+        let problem = Problem::new(claims, estate, out.len())?;
+        let loss = problem.loss();
+        self.rule.divide(claims, loss, out)?;
         less_awards(claims, out);
         Ok(())
     }

@@ -7,5 +7,4 @@ pub mod classes;
 pub mod dual;
 pub mod minimal_rights;
 pub mod seniority;
-mod serving;
 pub mod truncation;

@@ -4,7 +4,7 @@ ghost use Rattle.operators.specs.Operators.{minimal_rights};
 ghost use Rattle.operators.specs.RightsLawful.{minimal_rights_lawful};
 
 use crate::amounts::{add_to, cut_claims, rights_of, total_of};
-use division::problem::check;
+use division::problem::Problem;
 use division::refusal::RuleRefusal;
 use division::rule::Rule;
 
@@ -13,6 +13,7 @@ pub struct MinimalRights<R> {
     rule: R,
 }
 
+// Each layer has a `new` and an `into_rule` of its own: that each operator is a generic struct is a rule of the project.
 impl<R> MinimalRights<R> {
     pub fn new(rule: R) -> Self
         ensures result { result.rule ≡ rule }
@@ -34,15 +35,14 @@ impl<R: Rule> Rule for MinimalRights<R> {
     ghost lawful = { λ s. minimal_rights_lawful (R.Rule.awards s.rule) (R.Rule.lawful s.rule) };
 
     fn divide(&self, claims: &[u32], estate: u32, out: &mut [u32]) -> Result<(), RuleRefusal> {
-        let total = check(claims, estate, out.len())?;
-        let loss = total - estate;
-        let own = rights_of(claims, loss);
-        let own_total = total_of(&own[0..claims.len()]);
+        let problem = Problem::new(claims, estate, out.len())?;
+        let loss = problem.loss();
+        let own = rights_of(&problem, loss);
+        let own_total = total_of(&own);
         // A claim less its right is what the loss can reach of it.
-        let rest = cut_claims(claims, loss);
-        self.rule
-            .divide(&rest[0..claims.len()], estate - own_total, out)?;
-        add_to(&own[0..claims.len()], out);
+        let rest = cut_claims(&problem, loss);
+        self.rule.divide(&rest, estate - own_total, out)?;
+        add_to(&own, out);
         Ok(())
     }
 }

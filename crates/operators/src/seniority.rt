@@ -1,15 +1,17 @@
 // Seniority and its reverse: the classes are served one after the other, each out of what the others left.
-ghost use Rattle.std.specs.Prelude.{◌≡◌, take, IfOk, MatchResult};
-ghost use Rattle.division.specs.Problem.{most_claims};
-ghost use Rattle.operators.specs.Operators.{Classed, served};
+ghost use Rattle.std.specs.Prelude.{◌≡◌, ◌+◌, ◌-◌, ◌≤◌, length, take, if◌then◌else◌, nat_eq, Ok, IfOk, MatchResult};
+ghost use Rattle.division.specs.Amounts.{total, plus};
+ghost use Rattle.division.specs.Problem.{most_claims, most_total};
+ghost use Rattle.operators.specs.Operators.{Classed, of_class, served};
 ghost use Rattle.operators.specs.Classes.{order_of, kept, ServeAlike};
+ghost use Rattle.operators.specs.ClassLaws.{class_share};
 ghost use Rattle.operators.specs.ClassListLaws.{order_once};
 ghost use Rattle.operators.specs.SeniorityLawful.{served_lawful};
 ghost use Rattle.operators.specs.declared.classes.ClassRefusal.TheVariants.{ClassOutsideRange};
 
+use crate::amounts::{Amounts, add_to, of_each, total_of};
 use crate::classes::{ClassOrder, ClassRefusal, check_classes, keep};
-use crate::serving::serve_class;
-use division::problem::{MOST_CLAIMS, check};
+use division::problem::{MOST_CLAIMS, Problem};
 use division::refusal::RuleRefusal;
 use division::rule::Rule;
 
@@ -49,6 +51,49 @@ impl<R> Seniority<R> {
         } = self;
         rule
     }
+
+    // The claims of one class, with nothing at the other places.
+    fn claims_of(&self, class: u8, problem: &Problem<'_>) -> Amounts
+        ensures claims { result.items ≡ of_class class self.now.classes problem.now.claims.now }
+    {
+        let mut mine = Amounts::new();
+        // By place, since the class of a place stands in a list that is longer than the claims.
+        for (place, claim) in problem.claims.iter().enumerate() {
+            mine.push(claim_in(*claim, self.classes[place], class));
+        }
+        mine
+    }
+}
+
+// What a claim of the class `own` counts for while `class` is served.
+fn claim_in(claim: u32, own: u8, class: u8) -> u32
+    ensures result { result ≡ (if nat_eq own class then claim else 0) }
+{
+    if own == class { claim } else { 0 }
+}
+
+impl<R: Rule> Seniority<R> {
+    // Serves one class: adds to the awards what the rule makes of the class's share of what is left, and answers what is
+    // left for the classes after it.
+    fn serve(
+        &self,
+        class: u8,
+        problem: &Problem<'_>,
+        left: u32,
+        awards: &mut [u32],
+    ) -> Result<u32, RuleRefusal>
+        requires long { length awards.old ≡ length problem.now.claims.now }
+        requires room { total awards.old + left ≤ most_total }
+        ensures result { result ≡ Ok (left - class_share class self.now.classes problem.now.claims.now left) }
+        ensures awards { awards.new ≡ plus (R.Rule.awards self.now.rule (of_class class self.now.classes problem.now.claims.now) (class_share class self.now.classes problem.now.claims.now left)) awards.old }
+    {
+        let mine = self.claims_of(class, problem);
+        let share = total_of(&mine).min(left);
+        let mut part = of_each(problem, |_| 0);
+        self.rule.divide(&mine, share, &mut part)?;
+        add_to(&part, awards);
+        Ok(left - share)
+    }
 }
 
 impl<R: Rule> Rule for Seniority<R> {
@@ -57,12 +102,11 @@ impl<R: Rule> Rule for Seniority<R> {
     ghost lawful = { λ s. served_lawful (order_of s.order) s.classes (order_once s.order) s.classed (R.Rule.awards s.rule) (R.Rule.lawful s.rule) };
 
     fn divide(&self, claims: &[u32], estate: u32, out: &mut [u32]) -> Result<(), RuleRefusal> {
-        check(claims, estate, out.len())?;
+        let problem = Problem::new(claims, estate, out.len())?;
         out.fill(0);
-        let mut left = estate;
-        let order = self.order.classes();
-        for class in order.iter() {
-            left = serve_class(&self.rule, *class, &self.classes, claims, left, out)?;
+        let mut left = problem.estate;
+        for class in self.order.classes() {
+            left = self.serve(class, &problem, left, out)?;
         }
         Ok(())
     }

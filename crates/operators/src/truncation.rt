@@ -4,7 +4,7 @@ ghost use Rattle.operators.specs.Operators.{truncation};
 ghost use Rattle.operators.specs.TruncationLawful.{truncation_lawful};
 
 use crate::amounts::cut_claims;
-use division::problem::check;
+use division::problem::Problem;
 use division::refusal::RuleRefusal;
 use division::rule::Rule;
 
@@ -13,6 +13,7 @@ pub struct Truncation<R> {
     rule: R,
 }
 
+// Each layer has a `new` and an `into_rule` of its own: that each operator is a generic struct is a rule of the project.
 impl<R> Truncation<R> {
     pub fn new(rule: R) -> Self
         ensures result { result.rule ≡ rule }
@@ -34,9 +35,8 @@ impl<R: Rule> Rule for Truncation<R> {
     ghost lawful = { λ s. truncation_lawful (R.Rule.awards s.rule) (R.Rule.lawful s.rule) };
 
     fn divide(&self, claims: &[u32], estate: u32, out: &mut [u32]) -> Result<(), RuleRefusal> {
-        check(claims, estate, out.len())?;
-        let all_cut = cut_claims(claims, estate);
-        self.rule.divide(&all_cut[0..claims.len()], estate, out)?;
-        Ok(())
+        let problem = Problem::new(claims, estate, out.len())?;
+        let all_cut = cut_claims(&problem, estate);
+        self.rule.divide(&all_cut, estate, out)
     }
 }

@@ -2,8 +2,8 @@
 use Rattle.std.proofs.Common.{◌≡◌, Bool, true, false, List, Some, None, Ok, Option, sym, refl, ap, ◌∙◌}
 use Rattle.std.proofs.lemmas.Bool.{cond-true, cond-false, and_from, and_parts}
 use Rattle.normal_form.specs.declared.letter.Operator.{Operator}
-use Rattle.normal_form.specs.declared.form.Order.{Order}
-use Rattle.normal_form.specs.declared.form.Order.TheVariants.{Unordered, SeniorFirst, JuniorFirst}
+use Rattle.operators.specs.declared.classes.ClassOrder.{ClassOrder}
+use Rattle.operators.specs.declared.classes.ClassOrder.TheVariants.{SeniorFirst, JuniorFirst}
 use Rattle.normal_form.specs.declared.form.Place.{Place}
 use Rattle.normal_form.specs.declared.form.Place.TheVariants.{Absent, Inner, Outer}
 use Rattle.normal_form.specs.declared.compare.Comparison.{Comparison}
@@ -18,10 +18,10 @@ bool_itself : (b : Bool) → same_bool b b ≡ true
 bool_itself true = refl
 bool_itself false = refl
 
-order_itself : (o : Order) → same_order o o ≡ true
-order_itself Unordered = refl
-order_itself SeniorFirst = refl
-order_itself JuniorFirst = refl
+order_itself : (o : Option ClassOrder) → same_order o o ≡ true
+order_itself None = refl
+order_itself (Some SeniorFirst) = refl
+order_itself (Some JuniorFirst) = refl
 
 place_itself : (p : Place) → same_place p p ≡ true
 place_itself Absent = refl
@@ -38,16 +38,16 @@ bool_same true b e = sym e
 bool_same false true e = cc
 bool_same false false e = refl
 
-order_same : (a b : Order) → same_order a b ≡ true → a ≡ b
-order_same Unordered Unordered e = refl
-order_same Unordered SeniorFirst e = cc
-order_same Unordered JuniorFirst e = cc
-order_same SeniorFirst Unordered e = cc
-order_same SeniorFirst SeniorFirst e = refl
-order_same SeniorFirst JuniorFirst e = cc
-order_same JuniorFirst Unordered e = cc
-order_same JuniorFirst SeniorFirst e = cc
-order_same JuniorFirst JuniorFirst e = refl
+order_same : (a b : Option ClassOrder) → same_order a b ≡ true → a ≡ b
+order_same None None e = refl
+order_same None (Some SeniorFirst) e = cc
+order_same None (Some JuniorFirst) e = cc
+order_same (Some SeniorFirst) None e = cc
+order_same (Some SeniorFirst) (Some SeniorFirst) e = refl
+order_same (Some SeniorFirst) (Some JuniorFirst) e = cc
+order_same (Some JuniorFirst) None e = cc
+order_same (Some JuniorFirst) (Some SeniorFirst) e = cc
+order_same (Some JuniorFirst) (Some JuniorFirst) e = refl
 
 place_same : (a b : Place) → same_place a b ≡ true → a ≡ b
 place_same Absent Absent e = refl

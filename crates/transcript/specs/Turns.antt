@@ -9,8 +9,8 @@ use Rattle.division.specs.Proportion.{proportion}
 use Rattle.division.specs.Talmud.{talmud}
 use Rattle.normal_form.specs.declared.letter.Operator.{Operator}
 use Rattle.normal_form.specs.declared.letter.LetterRefusal.TheVariants.{UnknownLetter}
-use Rattle.normal_form.specs.declared.form.Order.{Order}
-use Rattle.normal_form.specs.declared.form.Order.TheVariants.{Unordered, SeniorFirst, JuniorFirst}
+use Rattle.operators.specs.declared.classes.ClassOrder.{ClassOrder}
+use Rattle.operators.specs.declared.classes.ClassOrder.TheVariants.{SeniorFirst, JuniorFirst}
 use Rattle.normal_form.specs.declared.form.Place.{Place}
 use Rattle.normal_form.specs.declared.form.Place.TheVariants.{Absent, Inner, Outer}
 use Rattle.normal_form.specs.Letters.{letters_in}
@@ -184,16 +184,16 @@ same_bool true b = b
 same_bool false true = false
 same_bool false false = true
 
-abbrev pub same_order : Order → Order → Bool
-same_order Unordered Unordered = true
-same_order Unordered SeniorFirst = false
-same_order Unordered JuniorFirst = false
-same_order SeniorFirst Unordered = false
-same_order SeniorFirst SeniorFirst = true
-same_order SeniorFirst JuniorFirst = false
-same_order JuniorFirst Unordered = false
-same_order JuniorFirst SeniorFirst = false
-same_order JuniorFirst JuniorFirst = true
+abbrev pub same_order : Option ClassOrder → Option ClassOrder → Bool
+same_order None None = true
+same_order None (Some SeniorFirst) = false
+same_order None (Some JuniorFirst) = false
+same_order (Some SeniorFirst) None = false
+same_order (Some SeniorFirst) (Some SeniorFirst) = true
+same_order (Some SeniorFirst) (Some JuniorFirst) = false
+same_order (Some JuniorFirst) None = false
+same_order (Some JuniorFirst) (Some SeniorFirst) = false
+same_order (Some JuniorFirst) (Some JuniorFirst) = true
 
 abbrev pub same_place : Place → Place → Bool
 same_place Absent Absent = true

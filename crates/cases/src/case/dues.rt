@@ -1,16 +1,15 @@
-// Which refusal is due for each call of whoever keeps the case; each test in the order of the refusals' numbers.
+// Whether a call of whoever keeps the case is refused, and why; each test in the order of the refusals' numbers.
 ghost use Rattle.std.specs.Prelude.{◌≡◌};
-ghost use Rattle.operators.specs.Classes.{is_class_number};
+ghost use Rattle.division.specs.Refusals.{answer};
 ghost use Rattle.cases.specs.Rows.{is_reserved_number, on_table};
 ghost use Rattle.cases.specs.Cases.{admit_due, amend_due, fund_due, divide_due, draw_due};
 ghost use Rattle.cases.specs.CaseViews.{view};
 
-use crate::case::Case;
+use crate::case::{Case, Stage};
 use crate::posting::ESTATE_NUMBER;
 use crate::refusal::CaseRefusal;
-use crate::table::calls::{amended_total, total_amount};
 use division::problem::{MOST_CLAIMS, MOST_TOTAL};
-use operators::classes::{FIRST_CLASS, LAST_CLASS};
+use operators::classes::is_class;
 
 // The number that is the owner's.
 pub(crate) const OWNER_NUMBER: u16 = 65_535;
@@ -22,13 +21,14 @@ pub(crate) fn is_reserved(number: u16) -> bool
     number == ESTATE_NUMBER || number == OWNER_NUMBER
 }
 
-fn is_class(class: u8) -> bool
-    ensures result { result ≡ is_class_number class }
-{
-    FIRST_CLASS <= class && class <= LAST_CLASS
-}
-
 impl Case {
+    // Whether a sheet is out.
+    pub(crate) fn is_out(&self) -> bool
+        ensures result { result ≡ (view self.now).out }
+    {
+        self.stage == Stage::SheetOut
+    }
+
     // Whether a claimant number is on the table.
     fn holds(&self, number: u16) -> bool
         ensures result { result ≡ on_table number (view self.now).rows }
@@ -36,81 +36,81 @@ impl Case {
         self.table.place_of(number).is_some()
     }
 
-    pub(crate) fn admit_refusal(&self, number: u16, amount: u32, class: u8) -> Option<CaseRefusal>
-        ensures result { result ≡ admit_due (view self.now) number amount class }
+    pub(crate) fn check_admit(&self, number: u16, amount: u32, class: u8) -> Result<(), CaseRefusal>
+        ensures result { result ≡ answer (admit_due (view self.now) number amount class) tt }
     {
-        if total_amount(self.table.rows()) + u64::from(amount) > MOST_TOTAL {
-            return Some(CaseRefusal::TotalAboveLimit);
+        if self.table.total_amount() + u64::from(amount) > MOST_TOTAL {
+            return Err(CaseRefusal::TotalAboveLimit);
         }
         if !is_class(class) {
-            return Some(CaseRefusal::ClassOutsideRange);
+            return Err(CaseRefusal::ClassOutsideRange);
         }
-        if self.out {
-            return Some(CaseRefusal::SheetOut);
+        if self.is_out() {
+            return Err(CaseRefusal::SheetOut);
         }
         if is_reserved(number) {
-            return Some(CaseRefusal::ReservedNumber);
+            return Err(CaseRefusal::ReservedNumber);
         }
         if self.holds(number) {
-            return Some(CaseRefusal::NumberTaken);
+            return Err(CaseRefusal::NumberTaken);
         }
         if self.table.rows().len() >= MOST_CLAIMS {
-            return Some(CaseRefusal::TableFull);
+            return Err(CaseRefusal::TableFull);
         }
-        None
+        Ok(())
     }
 
-    pub(crate) fn amend_refusal(&self, number: u16, amount: u32) -> Option<CaseRefusal>
-        ensures result { result ≡ amend_due (view self.now) number amount }
+    pub(crate) fn check_amend(&self, number: u16, amount: u32) -> Result<(), CaseRefusal>
+        ensures result { result ≡ answer (amend_due (view self.now) number amount) tt }
     {
-        if self.holds(number) && amended_total(self.table.rows(), number, amount) > MOST_TOTAL {
-            return Some(CaseRefusal::TotalAboveLimit);
+        if self.holds(number) && self.table.amended_total(number, amount) > MOST_TOTAL {
+            return Err(CaseRefusal::TotalAboveLimit);
         }
-        if self.out {
-            return Some(CaseRefusal::SheetOut);
+        if self.is_out() {
+            return Err(CaseRefusal::SheetOut);
         }
         if is_reserved(number) {
-            return Some(CaseRefusal::ReservedNumber);
+            return Err(CaseRefusal::ReservedNumber);
         }
         if !self.holds(number) {
-            return Some(CaseRefusal::NumberNotOnTable);
+            return Err(CaseRefusal::NumberNotOnTable);
         }
-        None
+        Ok(())
     }
 
-    pub(crate) fn fund_refusal(&self, amount: u32) -> Option<CaseRefusal>
-        ensures result { result ≡ fund_due (view self.now) amount }
+    pub(crate) fn check_fund(&self, amount: u32) -> Result<(), CaseRefusal>
+        ensures result { result ≡ answer (fund_due (view self.now) amount) tt }
     {
         if u64::from(amount) > MOST_TOTAL {
-            return Some(CaseRefusal::TotalAboveLimit);
+            return Err(CaseRefusal::TotalAboveLimit);
         }
-        if self.out {
-            return Some(CaseRefusal::SheetOut);
+        if self.is_out() {
+            return Err(CaseRefusal::SheetOut);
         }
-        None
+        Ok(())
     }
 
-    pub(crate) fn divide_refusal(&self) -> Option<CaseRefusal>
-        ensures result { result ≡ divide_due (view self.now) }
+    pub(crate) fn check_divide(&self) -> Result<(), CaseRefusal>
+        ensures result { result ≡ answer (divide_due (view self.now)) tt }
     {
-        if u64::from(self.fund) > total_amount(self.table.rows()) {
-            return Some(CaseRefusal::EstateAboveTotal);
+        if u64::from(self.fund) > self.table.total_amount() {
+            return Err(CaseRefusal::EstateAboveTotal);
         }
-        if self.out {
-            return Some(CaseRefusal::SheetOut);
+        if self.is_out() {
+            return Err(CaseRefusal::SheetOut);
         }
-        None
+        Ok(())
     }
 
-    pub(crate) fn draw_refusal(&self) -> Option<CaseRefusal>
-        ensures result { result ≡ draw_due (view self.now) }
+    pub(crate) fn check_draw(&self) -> Result<(), CaseRefusal>
+        ensures result { result ≡ answer (draw_due (view self.now)) tt }
     {
-        if self.out {
-            return Some(CaseRefusal::SheetOut);
+        if self.is_out() {
+            return Err(CaseRefusal::SheetOut);
         }
-        if !self.worked {
-            return Some(CaseRefusal::NotWorked);
+        if self.stage == Stage::Unworked {
+            return Err(CaseRefusal::NotWorked);
         }
-        None
+        Ok(())
     }
 }

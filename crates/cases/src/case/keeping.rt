@@ -1,19 +1,19 @@
 // The calls of whoever keeps the case. Each says what it answers and what the case holds afterwards, by equality to the
 // definition of the call; and that every past of the case, with this very call, is a past of the case afterwards in
 // which the sums of postings are settled.
-ghost use Rattle.std.specs.Prelude.{◌≡◌, [], length, IfOk, None};
+ghost use Rattle.std.specs.Prelude.{◌≡◌, true, [], length, IfOk, None};
 ghost use Rattle.division.specs.Refusals.{answer, unless_due};
-ghost use Rattle.cases.specs.Cases.{new_case, estate_of, admit_due, admitted, amend_due, amended, fund_due, funded, press_due, letters_pressed, divide_due, divided, awards_by, draw_due, sheet_of, drawn};
+ghost use Rattle.cases.specs.Cases.{new_case, estate_of, admit_due, admitted, amend_due, amended, fund_due, funded, press_due, letters_pressed, divide_due, divided, awards_by, draw_due, sheet_of, drawn, is_its_sheet};
 ghost use Rattle.cases.specs.Ledger.{Admit, Amend, Fund, Press, Divide, Draw};
 ghost use Rattle.cases.specs.History.{Past, Continues};
 ghost use Rattle.cases.specs.CaseViews.{view};
 
-use crate::case::Case;
+use crate::case::{Case, Stage};
 use crate::refusal::CaseRefusal;
 use crate::row::Row;
 use crate::sheet::Sheet;
 use crate::table::Table;
-use crate::table::calls::{claims_of, class_list, total_award};
+use arrayvec::ArrayVec;
 use division::problem::MOST_CLAIMS;
 use division::rule::Rule;
 use normal_form::form::Form;
@@ -32,8 +32,7 @@ impl Case {
             fund: 0,
             form: Form::empty(),
             table,
-            worked: false,
-            out: false,
+            stage: Stage::Unworked,
         })
     }
 
@@ -57,20 +56,16 @@ impl Case {
         ensures case { view self.new ≡ unless_due (admit_due (view self.old) number amount class) (admitted (view self.old) number amount class) (view self.old) }
         ensures history { Continues (Admit number amount class result) (view self.old) (view self.new) }
     {
-        match self.admit_refusal(number, amount, class) {
-            Some(refusal) => Err(refusal),
-            None => {
-                self.table.admit(Row {
-                    number,
-                    amount,
-                    class,
-                    paid: 0,
-                    award: 0,
-                });
-                self.worked = false;
-                Ok(())
-            }
-        }
+        self.check_admit(number, amount, class)?;
+        self.table.admit(Row {
+            number,
+            amount,
+            class,
+            paid: 0,
+            award: 0,
+        });
+        self.stage = Stage::Unworked;
+        Ok(())
     }
 
     // Sets the fund.
@@ -79,14 +74,10 @@ impl Case {
         ensures case { view self.new ≡ unless_due (fund_due (view self.old) amount) (funded (view self.old) amount) (view self.old) }
         ensures history { Continues (Fund amount result) (view self.old) (view self.new) }
     {
-        match self.fund_refusal(amount) {
-            Some(refusal) => Err(refusal),
-            None => {
-                self.fund = amount;
-                self.worked = false;
-                Ok(())
-            }
-        }
+        self.check_fund(amount)?;
+        self.fund = amount;
+        self.stage = Stage::Unworked;
+        Ok(())
     }
 
     // Changes the amount of one row, and of no other.
@@ -95,14 +86,10 @@ impl Case {
         ensures case { view self.new ≡ unless_due (amend_due (view self.old) number amount) (amended (view self.old) number amount) (view self.old) }
         ensures history { Continues (Amend number amount result) (view self.old) (view self.new) }
     {
-        match self.amend_refusal(number, amount) {
-            Some(refusal) => Err(refusal),
-            None => {
-                self.table.amend(number, amount);
-                self.worked = false;
-                Ok(())
-            }
-        }
+        self.check_amend(number, amount)?;
+        self.table.amend(number, amount);
+        self.stage = Stage::Unworked;
+        Ok(())
     }
 
     // Presses a string of letters, all or none, and keeps the form alone.
@@ -112,17 +99,13 @@ impl Case {
         ensures history { Continues (Press letters.now result) (view self.old) (view self.new) }
     {
         let mut form = self.form;
-        match form.press_all(letters) {
-            Err(refusal) => Err(CaseRefusal::Letter(refusal)),
-            Ok(()) => {
-                if self.out {
-                    return Err(CaseRefusal::SheetOut);
-                }
-                self.form = form;
-                self.worked = false;
-                Ok(())
-            }
+        form.press_all(letters)?;
+        if self.is_out() {
+            return Err(CaseRefusal::SheetOut);
         }
+        self.form = form;
+        self.stage = Stage::Unworked;
+        Ok(())
     }
 
     // Works the awards of the case's form over the amounts and classes, with the fund as estate, into the rows, and marks
@@ -132,38 +115,25 @@ impl Case {
         ensures case { view self.new ≡ unless_due (divide_due (view self.old)) (divided (view self.old) (R.Rule.awards rule.now)) (view self.old) }
         ensures history { Continues (Divide (R.Rule.awards rule.now) result) (view self.old) (view self.new) }
     {
-        match self.divide_refusal() {
-            Some(refusal) => Err(refusal),
-            None => {
-                let mut scratch = [0; MOST_CLAIMS];
-                let awards = &mut scratch[0..self.table.rows().len()];
-                self.work_awards(rule, awards);
-                self.table.award(awards);
-                self.worked = true;
-                Ok(())
-            }
-        }
+        self.check_divide()?;
+        let awards = self.work_awards(rule);
+        self.table.award(&awards);
+        self.stage = Stage::Worked;
+        Ok(())
     }
 
     // The awards of the case's form, where no refusal is due.
-    fn work_awards<R: Rule>(&self, rule: &R, awards: &mut [u32])
+    fn work_awards<R: Rule>(&self, rule: &R) -> ArrayVec<u32, MOST_CLAIMS>
         requires due { divide_due (view self.now) ≡ None }
-        requires room { length awards.old ≡ length (view self.now).rows }
-        ensures awards { awards.new ≡ awards_by (view self.now) (R.Rule.awards rule.now) }
+        ensures long { length result.items ≡ length (view self.now).rows }
+        ensures awards { result.items ≡ awards_by (view self.now) (R.Rule.awards rule.now) }
     {
-        let rows = self.table.rows();
-        let claims = claims_of(rows);
-        let classes = class_list(rows);
-        let count = rows.len();
-        match apply_form(
-            &self.form,
-            rule,
-            &classes[0..count],
-            &claims[0..count],
-            self.fund,
-            awards,
-        ) {
-            Ok(()) => {}
+        let claims = self.table.claims();
+        let classes = self.table.classes();
+        let mut awards = ArrayVec::from([0; MOST_CLAIMS]);
+        awards.truncate(claims.len());
+        match apply_form(&self.form, rule, &classes, &claims, self.fund, &mut awards) {
+            Ok(()) => awards,
             // A case keeps at most 64 rows, classes from 1 to 8 and a total within its limit, so no rule refuses it.
             Err(_) => unreachable(),
         }
@@ -173,19 +143,15 @@ impl Case {
     pub fn draw(&mut self) -> Result<Sheet, CaseRefusal>
         ensures result { result ≡ answer (draw_due (view self.old)) (sheet_of (view self.old)) }
         ensures case { view self.new ≡ unless_due (draw_due (view self.old)) (drawn (view self.old)) (view self.old) }
+        ensures its { IfOk result (λ sheet. is_its_sheet (view self.new) sheet ≡ true) }
         ensures history { Continues (Draw result) (view self.old) (view self.new) }
     {
-        match self.draw_refusal() {
-            Some(refusal) => Err(refusal),
-            None => {
-                self.out = true;
-                let rows = self.table.rows();
-                Ok(Sheet {
-                    number: self.number,
-                    rows: rows.len(),
-                    total: total_award(rows),
-                })
-            }
-        }
+        self.check_draw()?;
+        self.stage = Stage::SheetOut;
+        Ok(Sheet {
+            number: self.number,
+            rows: self.table.rows().len(),
+            total: self.table.total_award(),
+        })
     }
 }

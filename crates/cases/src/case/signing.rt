@@ -8,33 +8,31 @@ ghost use Rattle.cases.specs.Ledger.{Tally, Sign, Return};
 ghost use Rattle.cases.specs.History.{front_of, Continues};
 ghost use Rattle.cases.specs.CaseViews.{view};
 
-use crate::case::Case;
+use crate::case::{Case, Stage};
 use crate::refusal::SheetRefusal;
 use crate::row::Posting;
 use crate::sheet::Sheet;
 
 impl Case {
-    // Whether a sheet is out and this one bears the case's number.
-    fn sheet_refusal(&self, sheet: &Sheet) -> Option<SheetRefusal>
-        ensures result { result ≡ sheet_due (view self.now) sheet.now }
+    // A sheet that is out and bears the case's number, or the sheet with its refusal.
+    fn check_sheet(&self, sheet: Sheet) -> Result<Sheet, (Sheet, SheetRefusal)>
+        ensures result { result ≡ answer_with (sheet_due (view self.now) sheet) sheet sheet }
     {
-        if self.out && sheet.number == self.number {
-            None
+        if self.is_out() && sheet.number == self.number {
+            Ok(sheet)
         } else {
-            Some(SheetRefusal::OtherCase)
+            Err((sheet, SheetRefusal::OtherCase))
         }
     }
 
-    fn sign_refusal(&self, sheet: &Sheet, room: usize) -> Option<SheetRefusal>
-        ensures result { result ≡ sign_due (view self.now) sheet.now room }
+    fn check_sign(&self, sheet: Sheet, room: usize) -> Result<Sheet, (Sheet, SheetRefusal)>
+        ensures result { result ≡ answer_with (sign_due (view self.now) sheet room) sheet sheet }
     {
-        if !(self.out && sheet.number == self.number) {
-            return Some(SheetRefusal::OtherCase);
-        }
+        let sheet = self.check_sheet(sheet)?;
         if room < self.table.rows().len() + 1 {
-            return Some(SheetRefusal::ListTooShort);
+            return Err((sheet, SheetRefusal::ListTooShort));
         }
-        None
+        Ok(sheet)
     }
 
     // Gives the sheet back with whether its total is the control total.
@@ -42,13 +40,9 @@ impl Case {
         ensures result { result ≡ answer_with (sheet_due (view self.now) sheet) (sheet, (sheet.total == control)) sheet }
         ensures history { Continues (Tally sheet control result) (view self.now) (view self.now) }
     {
-        match self.sheet_refusal(&sheet) {
-            Some(refusal) => Err((sheet, refusal)),
-            None => {
-                let equal = sheet.total == control;
-                Ok((sheet, equal))
-            }
-        }
+        let sheet = self.check_sheet(sheet)?;
+        let equal = sheet.total == control;
+        Ok((sheet, equal))
     }
 
     // Writes the estate's posting and one for each row, pays every row its award, and answers how many it wrote.
@@ -63,16 +57,9 @@ impl Case {
         ensures postings { AllByRecursion Postable (front_of result out.new) }
         ensures history { Continues (Sign sheet (length out.old) result (front_of result out.new)) (view self.old) (view self.new) }
     {
-        match self.sign_refusal(&sheet, out.len()) {
-            Some(refusal) => Err((sheet, refusal)),
-            None => {
-                sheet.spend();
-                self.worked = false;
-                self.out = false;
-                let count = self.table.sign(out);
-                Ok(count)
-            }
-        }
+        self.check_sign(sheet, out.len())?.spend();
+        self.stage = Stage::Unworked;
+        Ok(self.table.sign(out))
     }
 
     // Takes the sheet back, writes nothing and leaves the mark.
@@ -81,13 +68,8 @@ impl Case {
         ensures case { view self.new ≡ unless_due (sheet_due (view self.old) sheet) (returned (view self.old)) (view self.old) }
         ensures history { Continues (Return sheet result) (view self.old) (view self.new) }
     {
-        match self.sheet_refusal(&sheet) {
-            Some(refusal) => Err((sheet, refusal)),
-            None => {
-                sheet.spend();
-                self.out = false; // the mark stays
-                Ok(())
-            }
-        }
+        self.check_sheet(sheet)?.spend();
+        self.stage = Stage::Worked; // the mark stays
+        Ok(())
     }
 }

@@ -1,6 +1,7 @@
 // The table's own calls: one row is lent inside a call, changed, and given back.
-ghost use Rattle.std.specs.Prelude.{◌≡◌, ◌+◌, ◌*◌, ◌<◌, ◌≤◌, true, [], ◌∷◌, ◌++◌, map, length, take, drop, IfOk, vec_len, slice_index_or, slice_set};
-ghost use Rattle.std.specs.List.{AllByRecursion};
+ghost use Rattle.std.specs.Prelude.{◌≡◌, ◌+◌, ◌<◌, ◌≤◌, true, [], ◌∷◌, ◌++◌, map, length, drop, IfOk, vec_len, slice_index_or, slice_set};
+ghost use Rattle.std.specs.List.{AllByRecursion, AllZip};
+ghost use Rattle.std.specs.Fn.{FnReturnsAt};
 ghost use Rattle.division.specs.Amounts.{total};
 ghost use Rattle.division.specs.Problem.{most_claims, most_total};
 ghost use Rattle.operators.specs.Classes.{is_class_number};
@@ -11,6 +12,7 @@ use crate::numbered::find;
 use crate::posting::{write_awards, write_lines};
 use crate::row::{Posting, Row};
 use crate::table::Table;
+use arrayvec::ArrayVec;
 use division::problem::MOST_CLAIMS;
 use std::alloc::{AllocError, Global};
 
@@ -84,65 +86,56 @@ impl Table {
     {
         write_lines(self.rows.as_mut_slice(), out)
     }
-}
 
-// What the amounts of rows add up to.
-pub(crate) fn total_amount(rows: &[Row]) -> u64
-    requires { length rows.now ≤ most_claims }
-    ensures result { result ≡ total (amounts rows.now) }
-    ensures bound { result ≤ 64 * 4294967295 }
-{
-    let mut sum: u64 = 0;
-    for (_place, row) in rows.iter().enumerate() {
-        sum += u64::from(row.amount);
+    // What the amounts add up to.
+    pub(crate) fn total_amount(&self) -> u64
+        ensures result { result ≡ total (amounts self.now.rows.items) }
+        ensures bound { result ≤ most_total }
+    {
+        self.rows.iter().map(|row| u64::from(row.amount)).sum()
     }
-    sum
-}
 
-// What the amounts would add up to with another amount under a number.
-pub(crate) fn amended_total(rows: &[Row], number: u16, amount: u32) -> u64
-    requires { length rows.now ≤ most_claims }
-    ensures result { result ≡ total (amounts (with_amount number amount rows.now)) }
-{
-    let sum = total_amount(rows);
-    match find(rows, u32::from(number)) {
-        Some(place) => sum - u64::from(rows[place].amount) + u64::from(amount),
-        None => sum,
+    // What the amounts would add up to with another amount under a number.
+    pub(crate) fn amended_total(&self, number: u16, amount: u32) -> u64
+        ensures result { result ≡ total (amounts (with_amount number amount self.now.rows.items)) }
+    {
+        let sum = self.total_amount();
+        match self.place_of(number) {
+            Some(place) => sum - u64::from(self.rows[place].amount) + u64::from(amount),
+            None => sum,
+        }
     }
-}
 
-// What the awards of rows add up to.
-pub(crate) fn total_award(rows: &[Row]) -> u64
-    requires { length rows.now ≤ most_claims }
-    ensures result { result ≡ total (awards_of rows.now) }
-{
-    let mut sum: u64 = 0;
-    for (_place, row) in rows.iter().enumerate() {
-        sum += u64::from(row.award);
+    // What the awards add up to.
+    pub(crate) fn total_award(&self) -> u64
+        ensures result { result ≡ total (awards_of self.now.rows.items) }
+    {
+        self.rows.iter().map(|row| u64::from(row.award)).sum()
     }
-    sum
-}
 
-// The amounts of rows, as the claims of a problem.
-pub(crate) fn claims_of(rows: &[Row]) -> [u32; MOST_CLAIMS]
-    requires { length rows.now ≤ most_claims }
-    ensures claims { take (length rows.now) result ≡ amounts rows.now }
-{
-    let mut claims = [0; MOST_CLAIMS];
-    for (place, row) in rows.iter().enumerate() {
-        claims[place] = row.amount;
+    // The amounts, as the claims of a problem.
+    pub(crate) fn claims(&self) -> ArrayVec<u32, MOST_CLAIMS>
+        ensures claims { result.items ≡ amounts self.now.rows.items }
+    {
+        self.column(|row| row.amount)
     }
-    claims
-}
 
-// The classes of rows, as a class list.
-pub(crate) fn class_list(rows: &[Row]) -> [u8; MOST_CLAIMS]
-    requires { length rows.now ≤ most_claims }
-    ensures classes { take (length rows.now) result ≡ classes_of rows.now }
-{
-    let mut classes = [0; MOST_CLAIMS];
-    for (place, row) in rows.iter().enumerate() {
-        classes[place] = row.class;
+    // The classes, as a class list.
+    pub(crate) fn classes(&self) -> ArrayVec<u8, MOST_CLAIMS>
+        ensures classes { result.items ≡ classes_of self.now.rows.items }
+    {
+        self.column(|row| row.class)
     }
-    classes
+
+    // One value of each row, in order.
+    fn column<T: Default + Drop, F: Fn(&Row) -> T>(&self, of: F) -> ArrayVec<T, MOST_CLAIMS>
+        requires { F.IsAlwaysCallable of }
+        ensures each { AllZip (λ row value. FnReturnsAt F.Fn of row value) self.now.rows.items result.items }
+    {
+        let mut column = ArrayVec::new();
+        for row in self.rows.iter() {
+            column.push(of(row));
+        }
+        column
+    }
 }

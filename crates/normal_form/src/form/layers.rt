@@ -1,7 +1,6 @@
 // A rule under the letters of a form: one layer for each letter, laid over the rule from the inside out. Each stage lays
 // its layer, if the form has it, and hands the rule so covered to the next, so that all forms share these six functions.
-ghost use Rattle.std.specs.Prelude.{◌≡◌, ℕ, List, length, None, Ok};
-ghost use Rattle.division.specs.Refusals.{due};
+ghost use Rattle.std.specs.Prelude.{◌≡◌, ℕ, List, length, Ok};
 ghost use Rattle.operators.specs.Operators.{Classed, served};
 ghost use Rattle.operators.specs.Classes.{order_of};
 ghost use Rattle.normal_form.specs.Letters.{applied};
@@ -9,7 +8,8 @@ ghost use Rattle.normal_form.specs.Forms.{letters_of};
 ghost use Rattle.normal_form.specs.FormParts.{parts};
 ghost use Rattle.normal_form.specs.Layers.{from_outer_rights, from_outer_truncation, from_seniority, from_inner_rights, from_inner_truncation};
 
-use crate::form::{Form, Order, Place};
+use crate::form::{Form, Place};
+use division::problem::Problem;
 use division::refusal::RuleRefusal;
 use division::rule::Rule;
 use operators::borrowed::Borrowed;
@@ -19,119 +19,77 @@ use operators::minimal_rights::MinimalRights;
 use operators::seniority::Seniority;
 use operators::truncation::Truncation;
 
-// Divides a sound problem by the rule under all letters of the form.
+// A sound problem, with a class from 1 to 8 for each claim.
+#[derive(Clone, Copy)]
+pub(crate) struct ClassedProblem<'a> {
+    pub(crate) problem: Problem<'a>,
+    pub(crate) classes: &'a [u8],
+    ghost classed: { Classed classes.now },
+}
+
+// Divides a problem by the rule under all letters of the form.
 pub(crate) fn under_form<R: Rule>(
     form: &Form,
     rule: &R,
-    classes: &[u8],
-    claims: &[u32],
-    estate: u32,
+    asked: &ClassedProblem<'_>,
     out: &mut [u32],
 ) -> Result<(), RuleRefusal>
-    requires sound { due claims.now estate (length out.old) ≡ None }
-    requires classed { Classed classes.now }
+    requires room { length out.old ≡ length asked.now.problem.claims.now }
     ensures result { result ≡ Ok tt }
-    ensures awards { out.new ≡ applied (letters_of (parts form.now)) classes.now (R.Rule.awards rule.now) claims.now estate }
+    ensures awards { out.new ≡ applied (letters_of (parts form.now)) asked.now.classes.now (R.Rule.awards rule.now) asked.now.problem.claims.now asked.now.problem.estate }
 {
     if form.dual {
-        inner_truncation(
-            form,
-            &Dual::new(Borrowed::new(rule)),
-            classes,
-            claims,
-            estate,
-            out,
-        )
+        inner_truncation(form, &Dual::new(Borrowed::new(rule)), asked, out)
     } else {
-        inner_truncation(form, rule, classes, claims, estate, out)
+        inner_truncation(form, rule, asked, out)
     }
 }
 
 fn inner_truncation<R: Rule>(
     form: &Form,
     rule: &R,
-    classes: &[u8],
-    claims: &[u32],
-    estate: u32,
+    asked: &ClassedProblem<'_>,
     out: &mut [u32],
 ) -> Result<(), RuleRefusal>
-    requires sound { due claims.now estate (length out.old) ≡ None }
-    requires classed { Classed classes.now }
+    requires room { length out.old ≡ length asked.now.problem.claims.now }
     ensures result { result ≡ Ok tt }
-    ensures awards { out.new ≡ applied (from_inner_truncation (parts form.now)) classes.now (R.Rule.awards rule.now) claims.now estate }
+    ensures awards { out.new ≡ applied (from_inner_truncation (parts form.now)) asked.now.classes.now (R.Rule.awards rule.now) asked.now.problem.claims.now asked.now.problem.estate }
 {
     match form.truncation {
-        Place::Inner => inner_rights(
-            form,
-            &Truncation::new(Borrowed::new(rule)),
-            classes,
-            claims,
-            estate,
-            out,
-        ),
-        Place::Absent | Place::Outer => inner_rights(form, rule, classes, claims, estate, out),
+        Place::Inner => inner_rights(form, &Truncation::new(Borrowed::new(rule)), asked, out),
+        Place::Absent | Place::Outer => inner_rights(form, rule, asked, out),
     }
 }
 
 fn inner_rights<R: Rule>(
     form: &Form,
     rule: &R,
-    classes: &[u8],
-    claims: &[u32],
-    estate: u32,
+    asked: &ClassedProblem<'_>,
     out: &mut [u32],
 ) -> Result<(), RuleRefusal>
-    requires sound { due claims.now estate (length out.old) ≡ None }
-    requires classed { Classed classes.now }
+    requires room { length out.old ≡ length asked.now.problem.claims.now }
     ensures result { result ≡ Ok tt }
-    ensures awards { out.new ≡ applied (from_inner_rights (parts form.now)) classes.now (R.Rule.awards rule.now) claims.now estate }
+    ensures awards { out.new ≡ applied (from_inner_rights (parts form.now)) asked.now.classes.now (R.Rule.awards rule.now) asked.now.problem.claims.now asked.now.problem.estate }
 {
     match form.rights {
-        Place::Inner => seniority(
-            form,
-            &MinimalRights::new(Borrowed::new(rule)),
-            classes,
-            claims,
-            estate,
-            out,
-        ),
-        Place::Absent | Place::Outer => seniority(form, rule, classes, claims, estate, out),
+        Place::Inner => seniority(form, &MinimalRights::new(Borrowed::new(rule)), asked, out),
+        Place::Absent | Place::Outer => seniority(form, rule, asked, out),
     }
 }
 
 fn seniority<R: Rule>(
     form: &Form,
     rule: &R,
-    classes: &[u8],
-    claims: &[u32],
-    estate: u32,
+    asked: &ClassedProblem<'_>,
     out: &mut [u32],
 ) -> Result<(), RuleRefusal>
-    requires sound { due claims.now estate (length out.old) ≡ None }
-    requires classed { Classed classes.now }
+    requires room { length out.old ≡ length asked.now.problem.claims.now }
     ensures result { result ≡ Ok tt }
-    ensures awards { out.new ≡ applied (from_seniority (parts form.now)) classes.now (R.Rule.awards rule.now) claims.now estate }
+    ensures awards { out.new ≡ applied (from_seniority (parts form.now)) asked.now.classes.now (R.Rule.awards rule.now) asked.now.problem.claims.now asked.now.problem.estate }
 {
     match form.order {
-        Order::Unordered => outer_truncation(form, rule, claims, estate, out),
-        Order::SeniorFirst => in_order(
-            form,
-            rule,
-            ClassOrder::SeniorFirst,
-            classes,
-            claims,
-            estate,
-            out,
-        ),
-        Order::JuniorFirst => in_order(
-            form,
-            rule,
-            ClassOrder::JuniorFirst,
-            classes,
-            claims,
-            estate,
-            out,
-        ),
+        None => outer_truncation(form, rule, &asked.problem, out),
+        Some(order) => in_order(form, rule, order, asked, out),
     }
 }
 
@@ -139,18 +97,15 @@ fn in_order<R: Rule>(
     form: &Form,
     rule: &R,
     order: ClassOrder,
-    classes: &[u8],
-    claims: &[u32],
-    estate: u32,
+    asked: &ClassedProblem<'_>,
     out: &mut [u32],
 ) -> Result<(), RuleRefusal>
-    requires sound { due claims.now estate (length out.old) ≡ None }
-    requires classed { Classed classes.now }
+    requires room { length out.old ≡ length asked.now.problem.claims.now }
     ensures result { result ≡ Ok tt }
-    ensures awards { out.new ≡ applied (from_outer_truncation (parts form.now)) classes.now (served (order_of order) classes.now (R.Rule.awards rule.now)) claims.now estate }
+    ensures awards { out.new ≡ applied (from_outer_truncation (parts form.now)) asked.now.classes.now (served (order_of order) asked.now.classes.now (R.Rule.awards rule.now)) asked.now.problem.claims.now asked.now.problem.estate }
 {
-    match Seniority::new(Borrowed::new(rule), order, classes) {
-        Ok(layer) => outer_truncation(form, &layer, claims, estate, out),
+    match Seniority::new(Borrowed::new(rule), order, asked.classes) {
+        Ok(layer) => outer_truncation(form, &layer, &asked.problem, out),
         // Classes from 1 to 8 are never refused.
         Err(_) => unreachable(),
     }
@@ -159,39 +114,41 @@ fn in_order<R: Rule>(
 fn outer_truncation<R: Rule>(
     form: &Form,
     rule: &R,
-    claims: &[u32],
-    estate: u32,
+    problem: &Problem<'_>,
     out: &mut [u32],
 ) -> Result<(), RuleRefusal>
-    requires sound { due claims.now estate (length out.old) ≡ None }
+    requires room { length out.old ≡ length problem.now.claims.now }
     ensures result { result ≡ Ok tt }
-    ensures awards { (classes : List ℕ) → out.new ≡ applied (from_outer_truncation (parts form.now)) classes (R.Rule.awards rule.now) claims.now estate }
+    ensures awards { (classes : List ℕ) → out.new ≡ applied (from_outer_truncation (parts form.now)) classes (R.Rule.awards rule.now) problem.now.claims.now problem.now.estate }
 {
     match form.truncation {
-        Place::Outer => outer_rights(
-            form,
-            &Truncation::new(Borrowed::new(rule)),
-            claims,
-            estate,
-            out,
-        ),
-        Place::Absent | Place::Inner => outer_rights(form, rule, claims, estate, out),
+        Place::Outer => outer_rights(form, &Truncation::new(Borrowed::new(rule)), problem, out),
+        Place::Absent | Place::Inner => outer_rights(form, rule, problem, out),
     }
 }
 
 fn outer_rights<R: Rule>(
     form: &Form,
     rule: &R,
-    claims: &[u32],
-    estate: u32,
+    problem: &Problem<'_>,
     out: &mut [u32],
 ) -> Result<(), RuleRefusal>
-    requires sound { due claims.now estate (length out.old) ≡ None }
+    requires room { length out.old ≡ length problem.now.claims.now }
     ensures result { result ≡ Ok tt }
-    ensures awards { (classes : List ℕ) → out.new ≡ applied (from_outer_rights (parts form.now)) classes (R.Rule.awards rule.now) claims.now estate }
+    ensures awards { (classes : List ℕ) → out.new ≡ applied (from_outer_rights (parts form.now)) classes (R.Rule.awards rule.now) problem.now.claims.now problem.now.estate }
 {
     match form.rights {
-        Place::Outer => MinimalRights::new(Borrowed::new(rule)).divide(claims, estate, out),
-        Place::Absent | Place::Inner => rule.divide(claims, estate, out),
+        Place::Outer => ask(&MinimalRights::new(Borrowed::new(rule)), problem, out),
+        Place::Absent | Place::Inner => ask(rule, problem, out),
     }
+}
+
+// Asks a rule for its awards; none refuses a sound problem.
+#[tactic(auto, using(crate::proofs::Laying::passes_if_sound))]
+fn ask<R: Rule>(rule: &R, problem: &Problem<'_>, out: &mut [u32]) -> Result<(), RuleRefusal>
+    requires room { length out.old ≡ length problem.now.claims.now }
+    ensures result { result ≡ Ok tt }
+    ensures awards { out.new ≡ R.Rule.awards rule.now problem.now.claims.now problem.now.estate }
+{
+    rule.divide(problem.claims, problem.estate, out)
 }

@@ -4,18 +4,19 @@ ghost use Rattle.normal_form.specs.Letters.{letters_in, accepted};
 ghost use Rattle.normal_form.specs.Forms.{no_letters, pressed, pressed_if_known, reversed, enclosed};
 ghost use Rattle.normal_form.specs.FormParts.{parts, parts_in, known_form};
 
-use crate::form::{Form, Order, Place};
-use crate::letter::{LetterRefusal, Operator, read_letter};
+use crate::form::{Form, Place};
+use crate::letter::{LetterRefusal, Operator};
+use operators::classes::ClassOrder;
 use std::mem::swap;
 
 // s for r and r for s.
-fn reverse(order: &mut Order)
+fn reverse(order: &mut Option<ClassOrder>)
     ensures result { order.new ≡ reversed order.old }
 {
     match order {
-        Order::Unordered => {}
-        Order::SeniorFirst => *order = Order::JuniorFirst,
-        Order::JuniorFirst => *order = Order::SeniorFirst,
+        None => {}
+        Some(ClassOrder::SeniorFirst) => *order = Some(ClassOrder::JuniorFirst),
+        Some(ClassOrder::JuniorFirst) => *order = Some(ClassOrder::SeniorFirst),
     }
 }
 
@@ -37,13 +38,14 @@ impl Form {
     {
         Form {
             dual: false,
-            order: Order::Unordered,
+            order: None,
             truncation: Place::Absent,
             rights: Place::Absent,
         }
     }
 
-    // Presses one letter: what it does depends on the form that it meets.
+    // Presses one letter: what it does depends on the form that it meets. Its parts and the letter are matched together and
+    // changed in place, a rule of the project; so t and m, and s and r, have arms of one shape each.
     pub fn press(&mut self, letter: Operator)
         ensures result { parts self.new ≡ pressed (parts self.old) letter }
     {
@@ -59,14 +61,14 @@ impl Form {
                 reverse(order);
                 swap(truncation, rights);
             }
-            (_, Order::Unordered, place @ Place::Absent, _, Operator::Truncation) => {
+            (_, None, place @ Place::Absent, _, Operator::Truncation) => {
                 *place = Place::Inner;
             }
             (_, _, place @ Place::Absent, _, Operator::Truncation) => {
                 *place = Place::Outer;
             }
             (_, _, _, _, Operator::Truncation) => {}
-            (_, Order::Unordered, _, place @ Place::Absent, Operator::MinimalRights) => {
+            (_, None, _, place @ Place::Absent, Operator::MinimalRights) => {
                 *place = Place::Inner;
             }
             (_, _, _, place @ Place::Absent, Operator::MinimalRights) => {
@@ -74,12 +76,12 @@ impl Form {
             }
             (_, _, _, _, Operator::MinimalRights) => {}
             (_, order, truncation, rights, Operator::Seniority) => {
-                *order = Order::SeniorFirst;
+                *order = Some(ClassOrder::SeniorFirst);
                 enclose(truncation);
                 enclose(rights);
             }
             (_, order, truncation, rights, Operator::ReverseSeniority) => {
-                *order = Order::JuniorFirst;
+                *order = Some(ClassOrder::JuniorFirst);
                 enclose(truncation);
                 enclose(rights);
             }
@@ -93,7 +95,7 @@ impl Form {
     {
         let mut form = *self;
         for byte in letters {
-            let letter = read_letter(*byte)?;
+            let letter = Operator::try_from(*byte)?;
             form.press(letter);
         }
         *self = form;
@@ -113,9 +115,6 @@ impl Form {
     pub fn same(&self, other: &Form) -> bool
         ensures result { Decides result (parts self.now ≡ parts other.now) }
     {
-        self.dual == other.dual
-            && self.order == other.order
-            && self.truncation == other.truncation
-            && self.rights == other.rights
+        self == other
     }
 }

@@ -94,23 +94,15 @@ fn push_comparison(text: &mut Text, comparison: &Comparison)
     requires { text.old ≡ [] }
     ensures { (line : ℕ) → text.new ≡ text_of line (compared comparison.now) }
 {
-    let mut first_letters = [0; 6];
-    let mut second_letters = [0; 6];
     match comparison {
         Comparison::Same(form) => {
-            let count = form.write(&mut first_letters);
-            text.push_line(b"same", &[&first_letters[..count]]);
+            let form = form.text();
+            text.push_line(b"same", &[form.as_bytes()]);
         }
         Comparison::Differ(first, second) => {
-            let first_count = first.write(&mut first_letters);
-            let second_count = second.write(&mut second_letters);
-            text.push_line(
-                b"differ",
-                &[
-                    &first_letters[..first_count],
-                    &second_letters[..second_count],
-                ],
-            );
+            let first = first.text();
+            let second = second.text();
+            text.push_line(b"differ", &[first.as_bytes(), second.as_bytes()]);
         }
     }
 }

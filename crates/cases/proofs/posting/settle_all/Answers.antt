@@ -1,15 +1,12 @@
 use Rattle.std.proofs.Common.{◌≡◌, ℕ, ◌<◌, List, ◌++◌, map, length, get_or, take, drop, set, sym, ap, ◌∙◌, subst, arith}
 use Rattle.std.specs.List.{AllByRecursion}
-use Rattle.std.proofs.lemmas.List.{map_more, take_all, drop_all, append-nil}
+use Rattle.std.proofs.lemmas.List.{map_more}
 use Rattle.std.proofs.ByRecursion.{All-push}
 use Rattle.std.proofs.lemmas.Int.{ints}
 use Rattle.cases.specs.declared.row.Row.{Row}
 use Rattle.cases.specs.Rows.{no_row, settled, row_posting, balance, Postable}
 use Rattle.cases.proofs.Payments.{mapped_more, next_as_was, balance_push}
 use Rattle.cases.proofs.posting.settle_all.Goals as goal
-
-pub overflow_add-sum : goal.overflow_add-sum
-overflow_add-sum c = omega (arith, ints, c.settle-posting.ensures.bound, c.loop-i.invariant.3, c.loop-i.invariant.4)
 
 -- the row in turn is still as it was before the loop
 in_turn : (rows before : List Row) (i : ℕ) → rows ≡ map settled (take i before) ++ drop i before → i < length before → get_or rows i no_row ≡ get_or before i no_row
@@ -33,16 +30,3 @@ loop-i-preserved c =
           (All-push Postable (map row_posting (take i rows)) (row_posting (get_or rows i no_row)) c.loop-i.invariant.5
           (subst Postable posting (omega (arith, ints, c.settle-posting.ensures.bound), omega (arith, ints, c.settle-posting.ensures.bound)))),
     )
-
-pub returns : goal.returns
-returns c =
-    let rows = c.args.rows.now in
-    let all = take_all c.loop-i.i rows c.loop-i-test.false in
-    let end : c.loop-i.i ≡ length rows = omega arith in
-    record {
-      bound = (omega (arith, ints, c.loop-i.invariant.3, c.loop-i.invariant.4), omega (arith, ints, c.loop-i.invariant.3, c.loop-i.invariant.4));
-      postings = subst (λ l. AllByRecursion Postable (map row_posting l)) all c.loop-i.invariant.5;
-      result = c.loop-i.invariant.2 ∙ ap (λ l. balance (map row_posting l)) all;
-      rows = c.loop-i.invariant.0 ∙ ap (λ l. map settled l ++ drop c.loop-i.i rows) all ∙ ap (λ l. map settled rows ++ l) (drop_all c.loop-i.i rows c.loop-i-test.false) ∙ append-nil (map settled rows);
-      list = c.loop-i.invariant.1 ∙ ap (λ l. map row_posting l ++ drop c.loop-i.i c.args.out.now) all ∙ ap (λ n. map row_posting rows ++ drop n c.args.out.now) end;
-    }

@@ -6,8 +6,8 @@ use Rattle.division.proofs.equal_awards.pay_equally.Goals as goal
 
 pub returns : goal.returns
 returns c =
-    let claims = c.args.claims.now in
-    let estate = c.args.estate in
+    let claims = c.args.problem.now.claims.now in
+    let estate = c.args.problem.now.estate in
     let l = c.find_level-level.result.0 in
     record {
       awards = c.hand_out.ensures.awards

@@ -2,7 +2,4 @@ use Rattle.division.proofs.Levels.{holds_all}
 use Rattle.division.proofs.level.find_level.Goals as goal
 
 pub level_between-requires : goal.level_between-requires
-level_between-requires c = record {
-  few = c.requires;
-  holds = rw c.largest_claim.ensures.result (holds_all c.args.claims.now c.args.estate);
-}
+level_between-requires c = record { holds = rw c.largest_claim.ensures.result (holds_all c.args.problem.now.claims.now c.args.problem.now.estate) }

@@ -1,26 +1,14 @@
-use Rattle.std.proofs.Common.{false, List, Ok, Err, ap, ◌∙◌}
-use Rattle.division.specs.Refusals.{answer, unless_due}
-use Rattle.cases.specs.declared.row.Row.{Row}
-use Rattle.cases.specs.Cases.{View, amended}
-use Rattle.cases.specs.Ledger.{Amend}
-use Rattle.cases.specs.CaseViews.{view}
+use Rattle.std.proofs.Common.{rules}
+use Rattle.cases.proofs.Dues.{left_if_refused}
 use Rattle.cases.proofs.Histories.{continues}
 use Rattle.cases.proofs.case.Case.amend.Goals as goal
 
-pub returns-in-Some : goal.returns-in-Some
-returns-in-Some c =
-    let v = view c.args.self.now in
-    let due = c.in-Some.ensures.result in
-    let result = ap (λ o. answer o tt) due in
-    let same = ap (λ o. unless_due o (amended v c.args.number c.args.amount) v) due in
-    record { result = result; case = same; history = continues (Amend c.args.number c.args.amount (Err c.in-Some.refusal)) v v (result, same) }
+pub returns-in_err-check_amend-clause-case : goal.returns-in_err-check_amend-clause-case
+returns-in_err-check_amend-clause-case c = left_if_refused _ _ _ _ _ c.in_err-check_amend.ensures.result
 
-pub returns-in-None : goal.returns-in-None
-returns-in-None c =
-    let v = view c.args.self.now in
-    let w = amended v c.args.number c.args.amount in
-    let due = c.in-None.ensures.result in
-    let with_rows : List Row → View = λ rows. record { number = v.number; fund = v.fund; form = v.form; rows = rows; marked = false; out = v.out } in
-    let result = ap (λ o. answer o tt) due in
-    let after = ap with_rows c.amend.ensures.rows ∙ ap (λ o. unless_due o w v) due in
-    record { result = result; case = after; history = continues (Amend c.args.number c.args.amount (Ok tt)) v (with_rows _) (result, after) }
+pub returns-in_err-check_amend-clause-history : goal.returns-in_err-check_amend-clause-history
+returns-in_err-check_amend-clause-history c =
+    continues _ _ _ (search rules, left_if_refused _ _ _ _ _ c.in_err-check_amend.ensures.result)
+
+pub returns-clause-history : goal.returns-clause-history
+returns-clause-history c = continues _ _ _ (search rules)

@@ -1,18 +1,13 @@
-use Rattle.std.proofs.Common.{◌≤◌, vec_items, sym, ◌∙◌, subst, arith}
+use Rattle.std.proofs.Common.{◌≤◌, vec_items, sym, ◌∙◌, subst}
 use Rattle.division.specs.Amounts.{total}
 use Rattle.division.specs.Problem.{most_total}
 use Rattle.cases.specs.Rows.{amounts}
 use Rattle.cases.proofs.Searches.{amount_at, amount_nowhere}
 use Rattle.cases.proofs.table.Table.amend.Goals as goal
 
-pub amend_at-requires : goal.amend_at-requires
-amend_at-requires c =
-    let rows = vec_items c.args.self.now.rows in
-    let found = c.in-Some.ensures.result in
-    record {
-      place = omega (arith, found.0, c.args.self.now.rows.ok.0);
-      small = subst (λ l. total (amounts l) ≤ most_total) (amount_at rows c.args.number c.args.amount c.in-Some.place found) c.requires.small;
-    }
+pub amend_at-requires-clause-small : goal.amend_at-requires-clause-small
+amend_at-requires-clause-small c =
+    subst (λ l. total (amounts l) ≤ most_total) (amount_at (vec_items c.args.self.now.rows) c.args.number c.args.amount c.in-Some.place c.in-Some.ensures.result) c.requires.small
 
 pub returns-in-Some : goal.returns-in-Some
 returns-in-Some c =

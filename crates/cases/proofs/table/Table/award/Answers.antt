@@ -25,11 +25,3 @@ invariant_of-self c =
       small = subst (λ n. n ≤ most_total) (sym (ap (λ l. total (amounts l)) after ∙ ap total (amounts_awarded awards rows))) table.small;
       classed = subst Classed (sym (ap classes_of after ∙ classes_awarded awards rows)) table.classed;
     }
-
-pub returns : goal.returns
-returns c =
-    let table = c.args.self.now in
-    let rows = vec_items table.rows in
-    let awards = c.args.awards.now in
-    let told = c.write_awards.ensures.rows ∙ ap (with_awards awards) c.as_mut_slice.ensures.value in
-    record { rows = with_items_is table.rows c.write_awards.new.rows (long awards rows c.write_awards.new.rows (vec_len table.rows) told table.rows.ok.0) ∙ told }

@@ -1,25 +1,17 @@
-use Rattle.std.proofs.Common.{◌≡◌, ℕ, ◌≤◌, List, ◌++◌, map, length, drop, vec_items, vec_len, sym, ap, ◌∙◌, subst, arith}
+use Rattle.std.proofs.Common.{◌≡◌, ℕ, ◌≤◌, List, map, length, vec_items, vec_len, sym, ap, ◌∙◌, subst}
 use lib.ListN.{length-map}
 use Rattle.std.proofs.lemmas.List.{with_items_is}
 use Rattle.division.specs.Amounts.{total}
 use Rattle.division.specs.Problem.{most_total}
 use Rattle.operators.specs.Operators.{Classed}
 use Rattle.cases.specs.declared.row.Row.{Row}
-use Rattle.std.specs.List.{AllByRecursion}
-use Rattle.cases.specs.Rows.{amounts, classes_of, settled, row_posting, lines, Postable}
+use Rattle.cases.specs.Rows.{amounts, classes_of, settled}
 use Rattle.cases.proofs.Tables.{amounts_settled, classes_settled}
 use Rattle.cases.proofs.table.Table.sign.Goals as goal
 
 -- as many rows as before
 long : (rows after : List Row) (len : ℕ) → after ≡ map settled rows → len ≡ length rows → length after ≡ len
 long rows after len told is = ap length told ∙ length-map rows settled ∙ sym is
-
-pub write_lines-requires : goal.write_lines-requires
-write_lines-requires c =
-    let table = c.args.self.now in
-    let same = ap length c.as_mut_slice.ensures.value in
-    let many = length-map (vec_items table.rows) row_posting in
-    record { few = omega (arith, table.few, table.rows.ok.0); room = omega (arith, c.requires) }
 
 pub invariant_of-self : goal.invariant_of-self
 invariant_of-self c =
@@ -32,17 +24,4 @@ invariant_of-self c =
       room = table.room;
       small = subst (λ n. n ≤ most_total) (sym (ap (λ l. total (amounts l)) after ∙ ap total (amounts_settled rows))) table.small;
       classed = subst Classed (sym (ap classes_of after ∙ classes_settled rows)) table.classed;
-    }
-
-pub returns : goal.returns
-returns c =
-    let table = c.args.self.now in
-    let rows = vec_items table.rows in
-    let same = c.as_mut_slice.ensures.value in
-    let told = c.write_lines.ensures.rows ∙ ap (map settled) same in
-    record {
-      result = c.write_lines.ensures.result ∙ ap (λ l. length (lines l)) same;
-      rows = with_items_is table.rows c.write_lines.new.rows (long rows c.write_lines.new.rows (vec_len table.rows) told table.rows.ok.0) ∙ told;
-      postings = subst (λ l. AllByRecursion Postable (lines l)) same c.write_lines.ensures.postings;
-      list = c.write_lines.ensures.list ∙ ap (λ l. lines l ++ drop (length (lines l)) c.args.out.now) same;
     }

@@ -12,7 +12,7 @@ returns-in_err-letter c =
     let start = parts c.args.self.now in
     let within : c.loop-byte.byte-index < length letters = omega arith in
     let exit = err_from_is_err_and c.from_residual.result c.from_residual.ensures.1 in
-    let none = none_known letters c.loop-byte.byte-index within (parts c.loop-byte.form) (after start (letters_in letters)) c.in_err-letter.field-0.0 c.in_err-letter.ensures.result c.loop-byte.invariant in
+    let none = none_known letters c.loop-byte.byte-index within (parts c.loop-byte.form) (after start (letters_in letters)) c.in_err-letter.field-0.0 c.in_err-letter.ensures c.loop-byte.invariant in
     let end = refused start (letters_in letters) exit.0 none in
     let as_it_was = end.1 in
     record { result = exit.1 ∙ end.0; form = search rules }
@@ -25,7 +25,7 @@ loop-byte-preserved c =
     let within : i < length letters = omega arith in
     let stepped : parts c.press.new.self ≡ pressed (parts c.loop-byte.form) c.in_ok-letter.letter = search rules in
     ap (λ p. after p (letters_in (drop (i + 1) letters))) stepped
-    ∙ one_more letters i within (parts c.loop-byte.form) (after start (letters_in letters)) c.in_ok-letter.letter c.in_ok-letter.ensures.result c.loop-byte.invariant
+    ∙ one_more letters i within (parts c.loop-byte.form) (after start (letters_in letters)) c.in_ok-letter.letter c.in_ok-letter.ensures c.loop-byte.invariant
 
 pub returns : goal.returns
 returns c =

@@ -1,16 +1,27 @@
-use Rattle.std.proofs.Common.{length, sym, ap, subst, arith}
+use Rattle.std.proofs.Common.{◌≡◌, length, None, sym, ap, ◌∙◌, subst, arith}
 use Rattle.division.specs.Amounts.{cut}
 use Rattle.division.specs.AmountLaws.{length-cut}
 use Rattle.division.specs.Problem.{Sound}
+use Rattle.division.specs.Refusals.{due, answer}
+use Rattle.operators.specs.Operators.{truncation}
 use Rattle.operators.specs.TruncationLawful.{cut_sound}
-use Rattle.operators.proofs.Problems.{front, never_refused}
+use Rattle.operators.proofs.Problems.{sound_passes, asked_awards, answered, awarded}
 use Rattle.operators.proofs.truncation.TruncationRule.divide.Goals as goal
 
-pub returns-in_err-divide : goal.returns-in_err-divide
-returns-in_err-divide g c =
+pub returns : goal.returns
+returns g c =
     let claims = c.args.claims.now in
     let estate = c.args.estate in
-    let passed = c.in_ok-check.ensures.result in
-    let asked = front c.cut_claims-all_cut.result (cut estate claims) (length claims) c.cut_claims-all_cut.ensures.claims in
-    let sound = subst (λ xs. Sound xs estate) (sym asked) (cut_sound claims estate passed.sound) in
-    absurd (never_refused _ estate _ sound (omega (arith, ap length asked, length-cut estate claims, passed.room_is)) _ _ c.divide.ensures.result c.in_err-divide.was)
+    let out = c.args.out.now in
+    let f = g.R.Rule.awards c.args.self.now.rule in
+    let checked = c.in_ok-problem.ensures.result in
+    let asked = c.deref.result.now in
+    let cut_is : asked ≡ cut estate claims = c.deref.ensures.0 ∙ c.cut_claims-all_cut.ensures.claims ∙ ap (cut estate) checked.0 in
+    let sound : Sound asked estate = subst (λ xs. Sound xs estate) (sym cut_is) (cut_sound claims estate checked.2.sound) in
+    let room : length out ≡ length asked = omega (arith, ap length cut_is, length-cut estate claims, checked.2.room_is) in
+    let refusal = due claims estate (length out) in
+    let none : refusal ≡ None = checked.2.none in
+    record {
+      result = c.divide.ensures.result ∙ ap (λ o. answer o tt) (sound_passes asked estate _ sound room) ∙ answered refusal none;
+      awards = awarded refusal none (truncation f claims estate) out c.divide.new.out (asked_awards asked estate _ sound room _ _ _ c.divide.ensures.awards ∙ ap (λ xs. f xs estate) cut_is);
+    }
