@@ -1,5 +1,5 @@
 -- How the lines of a text are written. Assumes nothing.
-use Rattle.std.proofs.Common.{◌≡◌, ℕ, suc, ◌^◌, ◌<◌, ◌≤◌, List, [], ◌∷◌, ◌++◌, map, length, codes, decimal, ℤ, pos, negsuc, neg_ℤ, ◌≤ℤ◌, w64, SFits, sym, ap, ◌∙◌, append_assoc, append-nil, arith}
+use Rattle.std.proofs.Common.{◌≡◌, ℕ, suc, ◌^◌, ◌<◌, ◌≤◌, List, [], ◌∷◌, ◌++◌, map, length, codes, decimal, ℤ, pos, negsuc, neg_ℤ, ◌≤ℤ◌, w64, SFits, to_z, of_z, sym, ap, ◌∙◌, append_assoc, append-nil, arith}
 use Rattle.std.specs.List.{flat_map}
 use Rattle.std.specs.Borrow.{Bor}
 use Rattle.std.specs.Fmt.{signed_decimal}
@@ -7,8 +7,8 @@ use Rattle.std.proofs.lemmas.Fmt.{length-decimal-le}
 use Rattle.cases.specs.declared.row.Posting.{Posting}
 use Rattle.std.proofs.lemmas.List.Concat.{flat_map-cons}
 use Rattle.std.proofs.lemmas.List.{flat_map_more}
-use Rattle.std.proofs.lemmas.Int.{ints}
-use Rattle.cases.specs.Rows.{most_posted}
+use Rattle.std.proofs.lemmas.Int.{ints, to_z-of_z}
+use Rattle.cases.specs.Rows.{most_posted, Postable}
 use Rattle.casefile.specs.Marks.{joined_by}
 use Rattle.casefile.specs.Fields.{comma}
 use Rattle.casefile.specs.Lines.{line_end}
@@ -30,13 +30,17 @@ pub line_is : (text word : List ℕ) (fields : List (Bor (List ℕ))) → ((text
 line_is text word fields = simp (append_assoc, joined_is)
 
 -- what a posting moves has at most twelve digits, and perhaps a hyphen
-pub posted_few : (z : ℤ) → neg_ℤ (pos most_posted) ≤ℤ z → z ≤ℤ pos most_posted → length (signed_decimal z) ≤ 13
+posted_few : (z : ℤ) → neg_ℤ (pos most_posted) ≤ℤ z → z ≤ℤ pos most_posted → length (signed_decimal z) ≤ 13
 posted_few (pos n) least most =
     let few : n ≤ most_posted = omega (arith, ints) in
     omega (arith, length-decimal-le 12 n (omega arith) (omega arith) (omega arith))
 posted_few (negsuc n) least most =
     let few : suc n ≤ most_posted = omega (arith, ints) in
     omega (arith, length-decimal-le 12 (suc n) (omega arith) (omega arith) (omega arith))
+
+-- also as it comes back from its 64 bits
+pub posting_few : (p : Posting) → Postable p → SFits w64 p.amount → length (signed_decimal (to_z w64 (of_z w64 p.amount))) ≤ 13
+posting_few p small fits = rw to_z-of_z (posted_few p.amount small.0 small.1)
 
 -- a first line, and a line behind others
 pub first_line : (start after : List ℕ) (fields : List (List ℕ)) → start ≡ [] → after ≡ start ++ as_line fields → after ≡ as_text (fields ∷ [])
@@ -51,9 +55,9 @@ pub numbers_line : (word : List ℕ) (m n : ℕ) → m < 2 ^ 64 → n < 2 ^ 64 �
 numbers_line word m n first second =
     ap (λ t. as_line (word ∷ t ∷ decimal n ∷ [])) (sym (digits_decimal_is m first)) ∙ ap (λ t. as_line (word ∷ digits m ∷ t ∷ [])) (sym (digits_decimal_is n second))
 
-pub post_line : (p : Posting) → p.number < 2 ^ 64 → SFits w64 p.amount → as_line (codes "post" ∷ decimal p.number ∷ signed_decimal p.amount ∷ []) ≡ as_line (post_fields p)
+pub post_line : (p : Posting) → p.number < 2 ^ 64 → SFits w64 p.amount → as_line (codes "post" ∷ decimal p.number ∷ signed_decimal (to_z w64 (of_z w64 p.amount)) ∷ []) ≡ as_line (post_fields p)
 post_line p first second =
-    ap (λ t. as_line (codes "post" ∷ t ∷ signed_decimal p.amount ∷ [])) (sym (digits_decimal_is p.number first)) ∙ ap (λ t. as_line (codes "post" ∷ digits p.number ∷ t ∷ [])) (signed_is p.amount second)
+    rw to_z-of_z (ap (λ t. as_line (codes "post" ∷ t ∷ signed_decimal p.amount ∷ [])) (sym (digits_decimal_is p.number first))) ∙ ap (λ t. as_line (codes "post" ∷ digits p.number ∷ t ∷ [])) (signed_is p.amount second)
   where
     signed_is : (z : ℤ) → SFits w64 z → signed_decimal z ≡ signed_digits z
     signed_is (pos n) fits = sym (digits_decimal_is n (omega (arith, ints)))

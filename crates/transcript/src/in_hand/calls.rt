@@ -1,9 +1,7 @@
 // What comes of each kind of line for a case in hand. Each function here is one line's call: it answers the outcome with
 // its values, or the refusal, and leaves in hand what the line's definition says.
 ghost use Rattle.std.specs.Prelude.{◌≡◌, IfOk, Some, None};
-ghost use Rattle.division.specs.Refusals.{answer, unless_due};
-ghost use Rattle.cases.specs.Cases.{divide_due, divided};
-ghost use Rattle.cases.specs.CaseViews.{view};
+ghost use Rattle.division.specs.BaseRules.{meaning_of as rule_meaning};
 ghost use Rattle.casefile.specs.Calls.{asked, field_letters};
 ghost use Rattle.transcript.specs.Turns.{new_in_hand, on_claim, on_amend, on_fund, on_letters, meaning_of, on_divide, on_draw, on_sign, on_return, operators_of, forms_told, asked_turn, turn, ending};
 ghost use Rattle.transcript.specs.HandViews.{in_hand, ClaimantFits, Comes, told_of, Answers, all_told};
@@ -14,14 +12,10 @@ use crate::refusal::Refusal;
 use arrayvec::ArrayVec;
 use casefile::call::{Call, RuleName, letters_of, read_line};
 use cases::case::Case;
-use cases::refusal::{CaseRefusal, SheetRefusal};
+use cases::refusal::SheetRefusal;
 use cases::row::Posting;
 use cases::sheet::Sheet;
-use division::equal_awards::EqualAwards;
-use division::priority::Priority;
-use division::proportion::Proportion;
-use division::rule::Rule;
-use division::talmud::Talmud;
+use division::base_rule::BaseRule;
 use normal_form::compare::compare;
 use normal_form::letter::LetterRefusal;
 use std::alloc::{AllocError, Global};
@@ -69,10 +63,10 @@ impl CaseInHand {
     }
 
     #[tactic(auto, using(crate::proofs::Handing::kept_in_order))]
-    fn divide(&mut self, rule: RuleName) -> Result<Outcome, Refusal>
-        ensures turn { Answers (on_divide rule (in_hand self.old)) result (in_hand self.new) }
+    fn divide(&mut self, name: RuleName) -> Result<Outcome, Refusal>
+        ensures turn { Answers (on_divide name (in_hand self.old)) result (in_hand self.new) }
     {
-        divide_by(&mut self.case, rule)?;
+        self.case.divide(&rule_of(name))?;
         Ok(Outcome::Divided(Division {
             rows: ArrayVec::try_from(self.case.rows()).unwrap(),
             estate: self.case.estate(),
@@ -136,7 +130,7 @@ impl CaseInHand {
             Call::Amend { number, amount } => self.amend(number as u16, amount),
             Call::Fund(amount) => self.fund(amount),
             Call::Press(field) => self.press(field),
-            Call::Divide(rule) => self.divide(rule),
+            Call::Divide(name) => self.divide(name),
             Call::Draw => self.draw(),
             Call::Sign => self.sign(),
             Call::Return => self.return_sheet(),
@@ -193,16 +187,14 @@ fn put_sheet(slot: &mut Option<Sheet>, sheet: Sheet)
     }
 }
 
-// Divides by the rule of a name. A type that is a rule by matching on the name would need these four arms too, and the
-// trait's laws beside, so it is no plainer.
-fn divide_by(case: &mut Case, rule: RuleName) -> Result<(), CaseRefusal>
-    ensures result { result ≡ answer (divide_due (view case.old)) tt }
-    ensures case { view case.new ≡ unless_due (divide_due (view case.old)) (divided (view case.old) (meaning_of rule)) (view case.old) }
+// The rule of a name. The case file knows of names alone, so that a name has a type of its own.
+fn rule_of(name: RuleName) -> BaseRule
+    ensures { rule_meaning result ≡ meaning_of name }
 {
-    match rule {
-        RuleName::Priority => case.divide(&Priority),
-        RuleName::Equal => case.divide(&EqualAwards),
-        RuleName::Proportion => case.divide(&Proportion),
-        RuleName::Talmud => case.divide(&Talmud),
+    match name {
+        RuleName::Priority => BaseRule::Priority,
+        RuleName::Equal => BaseRule::Equal,
+        RuleName::Proportion => BaseRule::Proportion,
+        RuleName::Talmud => BaseRule::Talmud,
     }
 }
