@@ -15,6 +15,7 @@ mod tests {
     use cases::sheet::Sheet;
     use division::equal_awards::EqualAwards;
     use division::rule::Rule;
+    use normal_form::letter::LetterRefusal;
     use std::process::Abort;
     use std::test::Fail;
 
@@ -377,6 +378,18 @@ mod tests {
         assert!(rt; second[1].number == 11 && second[1].amount == 0);
         assert!(rt; second[2].number == 12 && second[2].amount == 100);
         paid_and_awarded(&rt, &case, (100, 100), (200, 200));
+        Ok(())
+    }
+
+    #[test]
+    fn refusals_as_they_are_printed(rt: HostRuntime) -> Result<(), Fail> {
+        let letter = CaseRefusal::from(LetterRefusal::UnknownLetter);
+        let text = format!(in rt.alloc();
+            "{} {letter} {}",
+            CaseRefusal::TableFull,
+            SheetRefusal::ListTooShort
+        )?;
+        assert_eq!(rt; text.as_str(), "12 7 15");
         Ok(())
     }
 }
