@@ -17,7 +17,7 @@ pub const MOST_CLASS: u32 = 255;
 // The largest amount that a line may name.
 pub const MOST_AMOUNT: u32 = 4_294_967_295;
 
-// The rules that a line can name.
+// The rules that a line can name. An enum of the case file's own: this crate stands on no other, a rule of the project.
 #[derive(Clone, Copy, Debug, PartialEq, Eq)]
 pub enum RuleName {
     Priority,

@@ -2,7 +2,8 @@
 ghost use Rattle.std.specs.Prelude.{◌≡◌};
 ghost use Rattle.casefile.specs.Decimal.{number_in, ReadsBack};
 
-// The number that a text writes, or none if the text is no number or the number is above the limit.
+// The number that a text writes, or none if the text is no number or the number is above the limit. Not by `parse`, which
+// takes a sign and zeros in front.
 pub fn read_number(text: &[u8], limit: u32) -> Option<u32>
     ensures result { result ≡ number_in text.now limit }
     ensures written { ReadsBack text.now limit result }

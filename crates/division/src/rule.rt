@@ -14,7 +14,8 @@ pub trait Rule {
     // Each award lies between 0 and its claim, and the awards add up to the estate.
     ghost lawful: { (s : Self) → Lawful (awards s) };
 
-    // Writes the awards into `out`, which has a place for each claim, or refuses and leaves it as it was.
+    // Writes the awards into `out`, which has a place for each claim, or refuses and leaves it as it was. The claims and the
+    // estate come one by one and not as a `Problem`, since nobody has tested them yet.
     fn divide(&self, claims: &[u32], estate: u32, out: &mut [u32]) -> Result<(), RuleRefusal>
         ensures result { result ≡ answer (due claims.now estate (length out.old)) tt }
         ensures awards { out.new ≡ unless_due (due claims.now estate (length out.old)) (awards self.now claims.now estate) out.old };

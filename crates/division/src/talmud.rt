@@ -88,7 +88,8 @@ fn pay_on_halves(problem: &Problem<'_>, shared: u32) -> Awards
     })
 }
 
-// Half of each claim, rounded down.
+// Half of each claim, rounded down. A function over a closure that all crates share would be public and have a requires,
+// which no public function has.
 fn halves_of(problem: &Problem<'_>) -> Awards
     ensures halves { result.items ≡ halves problem.now.claims.now }
 {

@@ -115,7 +115,8 @@ pub fn apply_form<R: Rule>(
 }
 
 // Divides by the rule under a string of letters: each letter in turn makes an operator of what the letters before it
-// made of the rule. The work goes by the normal form, which is shown to award the same.
+// made of the rule. The work goes by the normal form, which is shown to award the same. What is asked comes part by part,
+// since nobody has tested it yet.
 pub fn apply<R: Rule>(
     letters: &[u8],
     rule: &R,

@@ -10,7 +10,7 @@ use division::problem::{MOST_CLAIMS, Problem};
 // One amount for each claim of a problem.
 pub(crate) type Amounts = ArrayVec<u32, MOST_CLAIMS>;
 
-// What a function makes of each claim.
+// What a function makes of each claim. It is this crate's own, since a public function has no requires.
 pub(crate) fn of_each<F: Fn(u32) -> u32>(problem: &Problem<'_>, amount: F) -> Amounts
     requires callable { F.IsAlwaysCallable amount }
     ensures long { length result.items ≡ length problem.now.claims.now }

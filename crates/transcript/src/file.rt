@@ -24,7 +24,8 @@ fn run_lines(runner: &mut Runner<'_>, text: &mut Vec<u8>) -> Result<(), AllocErr
     ensures ran { OnOk result (Ran (running runner.old) text.old.items (running runner.new) text.new.items) }
 {
     let mut buffer = [0; LEAST_BUFFER];
-    // No line is refused its buffer, which has the least room that is asked for.
+    // No line is refused its buffer, which has the least room that is asked for. A `for` would want an iterator, which a
+    // runner that may refuse its buffer is not.
     while let Ok(Some(printed)) = runner.run_line(&mut buffer) {
         text.extend_from_slice(&buffer[..printed.bytes])?;
     }

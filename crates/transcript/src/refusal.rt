@@ -23,6 +23,7 @@ impl Refusal {
     pub fn number(&self) -> u8
         ensures result { result ≡ refusal_number self.now }
     {
+        // A match, since each of them brings a number with it.
         match self {
             Refusal::Line(refusal) => refusal.number(),
             Refusal::Letter(refusal) => refusal.number(),

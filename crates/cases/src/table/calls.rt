@@ -127,7 +127,7 @@ impl Table {
         self.column(|row| row.class)
     }
 
-    // One value of each row, in order.
+    // One value of each row, in order. It is this crate's own, since a public function has no requires.
     fn column<T: Default + Drop, F: Fn(&Row) -> T>(&self, of: F) -> ArrayVec<T, MOST_CLAIMS>
         requires { F.IsAlwaysCallable of }
         ensures each { AllZip (λ row value. FnReturnsAt F.Fn of row value) self.now.rows.items result.items }
