@@ -57,9 +57,8 @@ impl<R> Seniority<R> {
         ensures claims { result.items ≡ of_class class self.now.classes problem.now.claims.now }
     {
         let mut mine = Amounts::new();
-        // By place, since the class of a place stands in a list that is longer than the claims.
-        for (place, claim) in problem.claims.iter().enumerate() {
-            mine.push(claim_in(*claim, self.classes[place], class));
+        for (claim, own) in problem.claims.iter().zip(&self.classes) {
+            mine.push(claim_in(*claim, *own, class));
         }
         mine
     }
