@@ -48,7 +48,8 @@ pub fn kind_of(line: &[u8]) -> Result<Line<'_>, LineRefusal>
     }
 }
 
-// The kind of a line, by its fields; no line has more than four.
+// The kind of a line, by its fields; no line has more than four. The words are told apart by a function for each number
+// of fields: one match over the words too was tried, and the proof of its refusing rest didn't close.
 fn by_fields(line: &[u8]) -> Result<Line<'_>, LineRefusal>
     ensures result { seen_as kind result ≡ kind_by_fields (fields line.now) }
 {

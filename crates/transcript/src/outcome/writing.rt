@@ -143,7 +143,8 @@ impl Outcome {
     }
 
     // Writes the text of the outcome of a line into the front of a buffer, leaves what lies behind as it was, and answers
-    // how many bytes it wrote. The number of the line is named by a refusal alone.
+    // how many bytes it wrote. The number of the line is named by a refusal alone. The room is the caller's, so that no call
+    // needs the heap.
     pub fn write(&self, line: usize, out: &mut [u8]) -> Result<usize, RunRefusal>
         ensures text { TextAnswered (text_of line (told self.now)) out.old result out.new }
     {
