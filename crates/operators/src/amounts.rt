@@ -39,7 +39,8 @@ pub(crate) fn rights_of(problem: &Problem<'_>, loss: u32) -> Amounts
     of_each(problem, |claim| claim.saturating_sub(loss))
 }
 
-// What amounts that came from a sound problem add up to. With the places, as every sum.
+// What amounts that came from a sound problem add up to. With the places, as every sum; this crate's own, since a public
+// function may not ask that the amounts keep the limit.
 pub(crate) fn total_of(amounts: &[u32]) -> u32
     requires small { total amounts.now ≤ most_total }
     ensures result { result ≡ total amounts.now }

@@ -88,7 +88,7 @@ pub fn check_classes(classes: &[u8]) -> Result<(), ClassRefusal>
     }
 }
 
-// The classes of the places that a problem can have.
+// The classes of the places that a problem can have: exactly 64, so that an array says it.
 pub(crate) fn keep(classes: &[u8]) -> [u8; MOST_CLAIMS]
     ensures result { result ≡ kept classes.now }
 {

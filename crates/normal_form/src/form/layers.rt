@@ -1,5 +1,7 @@
 // A rule under the letters of a form: one layer for each letter, laid over the rule from the inside out. Each stage lays
 // its layer, if the form has it, and hands the rule so covered to the next, so that all forms share these six functions.
+// Each asks that the caller's list has a place for each claim: a struct that lends the list out again at each stage would be
+// no plainer.
 ghost use Rattle.std.specs.Prelude.{◌≡◌, ℕ, List, length, Ok};
 ghost use Rattle.operators.specs.Operators.{Classed, served};
 ghost use Rattle.operators.specs.Classes.{order_of};
