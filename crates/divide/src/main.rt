@@ -2,7 +2,7 @@
 // compares some strings of letters by their normal forms; and works one estate through interim payments.
 #![tactic(auto)]
 
-use division::base_rule::BaseRule;
+use division::base_rule::{BASE_RULES, BaseRule};
 use normal_form::compare::{Comparison, compare};
 use normal_form::pile::apply;
 use std::io;
@@ -113,12 +113,7 @@ const CLASSED: Estate = Estate {
 
 fn show_rules(rt: &HostRuntime) -> io::Result<()> {
     for estate in [THREE, LARGE, TWO, ODD, BEYOND] {
-        for rule in [
-            BaseRule::Priority,
-            BaseRule::Equal,
-            BaseRule::Proportion,
-            BaseRule::Talmud,
-        ] {
+        for rule in BASE_RULES {
             show(rt, rule, "", estate)?;
         }
     }

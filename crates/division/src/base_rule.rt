@@ -19,6 +19,14 @@ pub enum BaseRule {
     Talmud,
 }
 
+// All of them.
+pub const BASE_RULES: [BaseRule; 4] = [
+    BaseRule::Priority,
+    BaseRule::Equal,
+    BaseRule::Proportion,
+    BaseRule::Talmud,
+];
+
 impl Rule for BaseRule {
     ghost awards = { meaning_of };
 

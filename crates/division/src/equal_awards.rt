@@ -4,10 +4,10 @@ ghost use Rattle.division.specs.EqualAwards.{equal_awards};
 ghost use Rattle.division.specs.EqualAwardsLawful.{equal_awards_lawful};
 
 use crate::level::{Capped, find_level};
-use crate::problem::Problem;
+use crate::problem::{Amounts, Problem};
 use crate::refusal::RuleRefusal;
 use crate::rule::Rule;
-use crate::share::{Awards, hand_out};
+use crate::share::hand_out;
 
 #[derive(Clone, Copy, Debug)]
 pub struct EqualAwards;
@@ -25,7 +25,7 @@ impl Rule for EqualAwards {
 }
 
 // Pays each claim up to the level, and a unit of the rest to each of the first claims above it.
-pub(crate) fn pay_equally(problem: &Problem<'_>) -> Awards
+pub(crate) fn pay_equally(problem: &Problem<'_>) -> Amounts
     ensures awards { result.items ≡ equal_awards problem.now.claims.now problem.now.estate }
 {
     let (level, rest) = find_level(problem);

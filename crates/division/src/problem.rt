@@ -7,12 +7,16 @@ ghost use Rattle.division.specs.Units.{how_many};
 
 use crate::refusal::RuleRefusal;
 use crate::share::Share;
+use arrayvec::ArrayVec;
 
 // The most claims that a problem may have.
 pub const MOST_CLAIMS: usize = 64;
 
 // The most that the claims of a problem may add up to.
 pub const MOST_TOTAL: u64 = 2_000_000_000;
+
+// One amount for each claim of a problem. It lies in the value itself, and nothing is on the heap.
+pub type Amounts = ArrayVec<u32, MOST_CLAIMS>;
 
 // What the claims add up to; 64 claims of 32 bits fit 64 bits with room to spare. A sum goes over the claims with their
 // places: a rule of the project.
@@ -78,6 +82,17 @@ impl<'a> Problem<'a> {
         ensures covered { result ≤ total self.now.claims.now }
     {
         self.sum - self.estate
+    }
+
+    // The base share of each claim.
+    pub(crate) fn parts<S: Share>(&self, share: &S) -> Amounts
+        ensures parts { result.items ≡ map (S.base share.now) self.now.claims.now }
+    {
+        let mut parts = Amounts::new();
+        for claim in self.claims {
+            parts.push(share.part(*claim));
+        }
+        parts
     }
 
     // What the base shares of the claims add up to, which is no more than the claims do. With the places, as every sum.

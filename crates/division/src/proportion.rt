@@ -3,10 +3,10 @@ ghost use Rattle.std.specs.Prelude.{◌≡◌, ◌*◌, ◌<◌, ◌≤◌};
 ghost use Rattle.division.specs.Proportion.{part, rounded, proportion};
 ghost use Rattle.division.specs.ProportionLawful.{proportion_lawful, prorated_room};
 
-use crate::problem::Problem;
+use crate::problem::{Amounts, Problem};
 use crate::refusal::RuleRefusal;
 use crate::rule::Rule;
-use crate::share::{Awards, Share, hand_out};
+use crate::share::{Share, hand_out};
 
 // A claim's part of the estate, rounded down; a claim whose division left a remainder may get a unit more.
 #[derive(Clone, Copy)]
@@ -66,7 +66,7 @@ impl Rule for Proportion {
 }
 
 // Pays each claim its part, and the missing units to the first claims that were rounded.
-fn pay_parts(problem: &Problem<'_>) -> Awards
+fn pay_parts(problem: &Problem<'_>) -> Amounts
     requires some { 0 < problem.now.sum }
     ensures awards { result.items ≡ proportion problem.now.claims.now problem.now.estate }
 {

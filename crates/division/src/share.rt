@@ -3,8 +3,7 @@
 ghost use Rattle.std.specs.Prelude.{◌≡◌, ℕ, Bool};
 ghost use Rattle.division.specs.Units.{Room, one_unit, topped_up};
 
-use crate::problem::{MOST_CLAIMS, Problem};
-use arrayvec::ArrayVec;
+use crate::problem::{Amounts, Problem};
 
 pub(crate) trait Share {
     // A claim's base share.
@@ -24,22 +23,19 @@ pub(crate) trait Share {
         ensures result { result ≡ marked self.now claim };
 }
 
-// The awards of a problem: as many as there are claims, and never more than a problem may have.
-pub(crate) type Awards = ArrayVec<u32, MOST_CLAIMS>;
-
 // The unit that a claim gets of those left.
 fn unit_for(marked: bool, left: u32) -> u32
     ensures result { result ≡ one_unit marked left }
 {
-    if marked && left > 0 { 1 } else { 0 }
+    u32::from(marked && left > 0)
 }
 
 // Each claim's base share, and one unit more for each of the first `units` claims that are marked.
-pub(crate) fn hand_out<S: Share>(problem: &Problem<'_>, share: &S, units: u32) -> Awards
+pub(crate) fn hand_out<S: Share>(problem: &Problem<'_>, share: &S, units: u32) -> Amounts
     ensures awards { result.items ≡ topped_up (S.base share.now) (S.marked share.now) units problem.now.claims.now }
 {
     let mut left = units;
-    let mut awards = ArrayVec::new();
+    let mut awards = Amounts::new();
     for claim in problem.claims {
         let unit = unit_for(share.marks(*claim), left);
         awards.push(share.part(*claim) + unit);

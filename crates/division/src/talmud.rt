@@ -9,11 +9,10 @@ ghost use Rattle.division.specs.TalmudLawful.{talmud_lawful, halved_room};
 
 use crate::amounts::less_awards;
 use crate::equal_awards::pay_equally;
-use crate::problem::Problem;
+use crate::problem::{Amounts, Problem};
 use crate::refusal::RuleRefusal;
 use crate::rule::Rule;
-use crate::share::{Awards, Share, hand_out};
-use arrayvec::ArrayVec;
+use crate::share::{Share, hand_out};
 
 // Half of a claim, rounded down; an odd claim may get a unit more.
 #[derive(Clone, Copy)]
@@ -51,7 +50,7 @@ impl Rule for Talmud {
 }
 
 // The halves decide in which range the estate lies.
-fn pay_by_range(problem: &Problem<'_>) -> Awards
+fn pay_by_range(problem: &Problem<'_>) -> Amounts
     ensures awards { result.items ≡ talmud problem.now.claims.now problem.now.estate }
 {
     let estate = problem.estate;
@@ -66,7 +65,7 @@ fn pay_by_range(problem: &Problem<'_>) -> Awards
 }
 
 // Each claim less an equal award of the loss on its half.
-fn pay_losses(problem: &Problem<'_>, loss: u32) -> Awards
+fn pay_losses(problem: &Problem<'_>, loss: u32) -> Amounts
     requires covered { loss ≤ total (halves problem.now.claims.now) }
     ensures awards { result.items ≡ less problem.now.claims.now (equal_awards (halves problem.now.claims.now) loss) }
 {
@@ -76,26 +75,14 @@ fn pay_losses(problem: &Problem<'_>, loss: u32) -> Awards
 }
 
 // Equal awards on half of each claim.
-fn pay_on_halves(problem: &Problem<'_>, shared: u32) -> Awards
+fn pay_on_halves(problem: &Problem<'_>, shared: u32) -> Amounts
     requires covered { shared ≤ total (halves problem.now.claims.now) }
     ensures awards { result.items ≡ equal_awards (halves problem.now.claims.now) shared }
 {
-    let halves = halves_of(problem);
+    let halves = problem.parts(&Halved);
     pay_equally(&Problem {
         claims: &halves,
         estate: shared,
         sum: problem.base_total(&Halved),
     })
-}
-
-// Half of each claim, rounded down. A function over a closure that all crates share would be public and have a requires,
-// which no public function has.
-fn halves_of(problem: &Problem<'_>) -> Awards
-    ensures halves { result.items ≡ halves problem.now.claims.now }
-{
-    let mut halves = ArrayVec::new();
-    for claim in problem.claims {
-        halves.push(Halved.part(*claim));
-    }
-    halves
 }

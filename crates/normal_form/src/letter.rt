@@ -14,7 +14,7 @@ pub enum Operator {
     ReverseSeniority,
 }
 
-// Why a string of letters is refused, beside the number under which the refusal is known and printed.
+// Why a string of letters is refused, with the number under which the refusal is known and printed.
 #[derive(Clone, Copy, Debug, PartialEq, Eq)]
 pub enum LetterRefusal {
     UnknownLetter = 7,

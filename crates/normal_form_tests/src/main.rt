@@ -2,7 +2,7 @@
 // letters one by one (tests/plain_letters.py); and tests refusals in their order.
 #![tactic(auto)]
 
-use division::base_rule::BaseRule;
+use division::base_rule::{BASE_RULES, BaseRule};
 use normal_form::pile::apply;
 use std::io;
 
@@ -33,13 +33,6 @@ const CLASSES: [u8; 5] = [2, 1, 8, 2, 1];
 
 const ESTATES: [u32; 5] = [0, 9, 36, 60, 73];
 
-const RULES: [BaseRule; 4] = [
-    BaseRule::Priority,
-    BaseRule::Equal,
-    BaseRule::Proportion,
-    BaseRule::Talmud,
-];
-
 fn show(rt: &HostRuntime, rule: BaseRule, letters: &str, estate: u32) -> io::Result<()> {
     let mut awards = [0; 5];
     match apply(
@@ -64,7 +57,7 @@ fn show(rt: &HostRuntime, rule: BaseRule, letters: &str, estate: u32) -> io::Res
 fn main(rt: HostRuntime) -> io::Result<()> {
     for letters in LETTERS {
         for estate in ESTATES {
-            for rule in RULES {
+            for rule in BASE_RULES {
                 show(&rt, rule, letters, estate)?;
             }
         }

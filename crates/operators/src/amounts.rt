@@ -1,22 +1,19 @@
-// Work on lists of amounts, place by place. No list is longer than a problem may be, so that none is on the heap.
+// Work on lists of amounts, place by place. No list has more places than a problem may have claims.
 ghost use Rattle.std.specs.Prelude.{◌≡◌, ℕ, ◌+◌, ◌≤◌, map, length};
 ghost use Rattle.division.specs.Amounts.{total, cut, plus};
 ghost use Rattle.division.specs.Problem.{most_total};
 ghost use Rattle.operators.specs.Operators.{rights};
 
-use arrayvec::ArrayVec;
-use division::problem::{MOST_CLAIMS, Problem};
+use division::problem::{Amounts, Problem};
 
-// One amount for each claim of a problem.
-pub(crate) type Amounts = ArrayVec<u32, MOST_CLAIMS>;
-
-// What a function makes of each claim. It is this crate's own, since a public function has no requires.
+// What a function makes of each claim. It is this crate's own: a function that calls a closure asks that it may be called,
+// and no public function has a requires.
 pub(crate) fn of_each<F: Fn(u32) -> u32>(problem: &Problem<'_>, amount: F) -> Amounts
     requires callable { F.IsAlwaysCallable amount }
     ensures long { length result.items ≡ length problem.now.claims.now }
     ensures amounts { (g : ℕ → ℕ) → ((c a : ℕ) → F.post amount c a → a ≡ g c) → result.items ≡ map g problem.now.claims.now }
 {
-    let mut amounts = ArrayVec::new();
+    let mut amounts = Amounts::new();
     for claim in problem.claims {
         amounts.push(amount(*claim));
     }

@@ -18,7 +18,7 @@ pub const FIRST_CLASS: u8 = 1;
 // The class that is least senior, and of each place that a class list does not reach.
 pub const LAST_CLASS: u8 = 8;
 
-// Why a class list is refused, beside the number under which it is known and printed.
+// Why a class list is refused, with the number under which it is known and printed.
 #[derive(Clone, Copy, Debug, PartialEq, Eq)]
 pub enum ClassRefusal {
     ClassOutsideRange = 5,

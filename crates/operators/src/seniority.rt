@@ -9,9 +9,9 @@ ghost use Rattle.operators.specs.ClassListLaws.{order_once};
 ghost use Rattle.operators.specs.SeniorityLawful.{served_lawful};
 ghost use Rattle.operators.specs.declared.classes.ClassRefusal.TheVariants.{ClassOutsideRange};
 
-use crate::amounts::{Amounts, add_to, of_each, total_of};
+use crate::amounts::{add_to, of_each, total_of};
 use crate::classes::{ClassOrder, ClassRefusal, check_classes, keep};
-use division::problem::{MOST_CLAIMS, Problem};
+use division::problem::{Amounts, MOST_CLAIMS, Problem};
 use division::refusal::RuleRefusal;
 use division::rule::Rule;
 

@@ -1,8 +1,9 @@
 // A rule under the letters of a form: one layer for each letter, laid over the rule from the inside out. Each stage lays
 // its layer, if the form has it, and hands the rule so covered to the next, so that all forms share these six functions.
 // Each asks that the caller's list has a place for each claim: a struct that lends the list out again at each stage would be
-// no plainer.
-ghost use Rattle.std.specs.Prelude.{◌≡◌, ℕ, List, length, Ok};
+// no plainer. Stages for one letter inside and outside the seniority letter are alike but for what they hand on to, which
+// is generic in the rule, as no closure can be.
+ghost use Rattle.std.specs.Prelude.{◌≡◌, ℕ, List, length};
 ghost use Rattle.operators.specs.Operators.{Classed, served};
 ghost use Rattle.operators.specs.Classes.{order_of};
 ghost use Rattle.normal_form.specs.Letters.{applied};
@@ -12,7 +13,6 @@ ghost use Rattle.normal_form.specs.Layers.{from_outer_rights, from_outer_truncat
 
 use crate::form::{Form, Place};
 use division::problem::Problem;
-use division::refusal::RuleRefusal;
 use division::rule::Rule;
 use operators::borrowed::Borrowed;
 use operators::classes::ClassOrder;
@@ -35,9 +35,8 @@ pub(crate) fn under_form<R: Rule>(
     rule: &R,
     asked: &ClassedProblem<'_>,
     out: &mut [u32],
-) -> Result<(), RuleRefusal>
+)
     requires room { length out.old ≡ length asked.now.problem.claims.now }
-    ensures result { result ≡ Ok tt }
     ensures awards { out.new ≡ applied (letters_of (parts form.now)) asked.now.classes.now (R.Rule.awards rule.now) asked.now.problem.claims.now asked.now.problem.estate }
 {
     if form.dual {
@@ -47,14 +46,8 @@ pub(crate) fn under_form<R: Rule>(
     }
 }
 
-fn inner_truncation<R: Rule>(
-    form: &Form,
-    rule: &R,
-    asked: &ClassedProblem<'_>,
-    out: &mut [u32],
-) -> Result<(), RuleRefusal>
+fn inner_truncation<R: Rule>(form: &Form, rule: &R, asked: &ClassedProblem<'_>, out: &mut [u32])
     requires room { length out.old ≡ length asked.now.problem.claims.now }
-    ensures result { result ≡ Ok tt }
     ensures awards { out.new ≡ applied (from_inner_truncation (parts form.now)) asked.now.classes.now (R.Rule.awards rule.now) asked.now.problem.claims.now asked.now.problem.estate }
 {
     match form.truncation {
@@ -63,14 +56,8 @@ fn inner_truncation<R: Rule>(
     }
 }
 
-fn inner_rights<R: Rule>(
-    form: &Form,
-    rule: &R,
-    asked: &ClassedProblem<'_>,
-    out: &mut [u32],
-) -> Result<(), RuleRefusal>
+fn inner_rights<R: Rule>(form: &Form, rule: &R, asked: &ClassedProblem<'_>, out: &mut [u32])
     requires room { length out.old ≡ length asked.now.problem.claims.now }
-    ensures result { result ≡ Ok tt }
     ensures awards { out.new ≡ applied (from_inner_rights (parts form.now)) asked.now.classes.now (R.Rule.awards rule.now) asked.now.problem.claims.now asked.now.problem.estate }
 {
     match form.rights {
@@ -79,14 +66,8 @@ fn inner_rights<R: Rule>(
     }
 }
 
-fn seniority<R: Rule>(
-    form: &Form,
-    rule: &R,
-    asked: &ClassedProblem<'_>,
-    out: &mut [u32],
-) -> Result<(), RuleRefusal>
+fn seniority<R: Rule>(form: &Form, rule: &R, asked: &ClassedProblem<'_>, out: &mut [u32])
     requires room { length out.old ≡ length asked.now.problem.claims.now }
-    ensures result { result ≡ Ok tt }
     ensures awards { out.new ≡ applied (from_seniority (parts form.now)) asked.now.classes.now (R.Rule.awards rule.now) asked.now.problem.claims.now asked.now.problem.estate }
 {
     match form.order {
@@ -101,9 +82,8 @@ fn in_order<R: Rule>(
     order: ClassOrder,
     asked: &ClassedProblem<'_>,
     out: &mut [u32],
-) -> Result<(), RuleRefusal>
+)
     requires room { length out.old ≡ length asked.now.problem.claims.now }
-    ensures result { result ≡ Ok tt }
     ensures awards { out.new ≡ applied (from_outer_truncation (parts form.now)) asked.now.classes.now (served (order_of order) asked.now.classes.now (R.Rule.awards rule.now)) asked.now.problem.claims.now asked.now.problem.estate }
 {
     match Seniority::new(Borrowed::new(rule), order, asked.classes) {
@@ -113,14 +93,8 @@ fn in_order<R: Rule>(
     }
 }
 
-fn outer_truncation<R: Rule>(
-    form: &Form,
-    rule: &R,
-    problem: &Problem<'_>,
-    out: &mut [u32],
-) -> Result<(), RuleRefusal>
+fn outer_truncation<R: Rule>(form: &Form, rule: &R, problem: &Problem<'_>, out: &mut [u32])
     requires room { length out.old ≡ length problem.now.claims.now }
-    ensures result { result ≡ Ok tt }
     ensures awards { (classes : List ℕ) → out.new ≡ applied (from_outer_truncation (parts form.now)) classes (R.Rule.awards rule.now) problem.now.claims.now problem.now.estate }
 {
     match form.truncation {
@@ -129,14 +103,8 @@ fn outer_truncation<R: Rule>(
     }
 }
 
-fn outer_rights<R: Rule>(
-    form: &Form,
-    rule: &R,
-    problem: &Problem<'_>,
-    out: &mut [u32],
-) -> Result<(), RuleRefusal>
+fn outer_rights<R: Rule>(form: &Form, rule: &R, problem: &Problem<'_>, out: &mut [u32])
     requires room { length out.old ≡ length problem.now.claims.now }
-    ensures result { result ≡ Ok tt }
     ensures awards { (classes : List ℕ) → out.new ≡ applied (from_outer_rights (parts form.now)) classes (R.Rule.awards rule.now) problem.now.claims.now problem.now.estate }
 {
     match form.rights {
@@ -147,10 +115,12 @@ fn outer_rights<R: Rule>(
 
 // Asks a rule for its awards; none refuses a sound problem.
 #[tactic(auto, using(crate::proofs::Laying::passes_if_sound))]
-fn ask<R: Rule>(rule: &R, problem: &Problem<'_>, out: &mut [u32]) -> Result<(), RuleRefusal>
+fn ask<R: Rule>(rule: &R, problem: &Problem<'_>, out: &mut [u32])
     requires room { length out.old ≡ length problem.now.claims.now }
-    ensures result { result ≡ Ok tt }
     ensures awards { out.new ≡ R.Rule.awards rule.now problem.now.claims.now problem.now.estate }
 {
-    rule.divide(problem.claims, problem.estate, out)
+    match rule.divide(problem.claims, problem.estate, out) {
+        Ok(()) => {}
+        Err(_) => unreachable(),
+    }
 }

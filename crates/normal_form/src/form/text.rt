@@ -8,7 +8,8 @@ use arrayvec::ArrayString;
 use operators::classes::ClassOrder;
 use std::fmt;
 
-// The most letters that a form has.
+// The room that `write` asks for. It writes into the caller's list, as it did before a form had a text of its own; a form has
+// at most four letters.
 pub const MOST_LETTERS: usize = 6;
 
 // A letter that is there, or nothing.
