@@ -1,10 +1,10 @@
 -- A text is read as a number exactly if it is the text of that number. Assumes nothing.
-use Rattle.std.proofs.Common.{◌≡◌, ℕ, zero, suc, ◌+◌, ◌-◌, ◌*◌, ◌^◌, ◌<◌, ◌≤◌, true, false, cond, not, ◌&&◌, eqb, leb, List, [], ◌∷◌, length, get_or, drop, Some, None, decimal, Option, sym, refl, ap, ◌∙◌, subst, add-one, arith, rules}
+use Rattle.std.proofs.Common.{◌≡◌, ℕ, zero, suc, ◌+◌, ◌-◌, ◌*◌, ◌/◌, ◌%◌, ◌^◌, ◌<◌, ◌≤◌, true, false, cond, not, ◌&&◌, eqb, leb, List, [], ◌∷◌, ◌++◌, length, get_or, drop, Some, None, decimal, Option, sym, refl, ap, ◌∙◌, subst, add-one, arith, rules}
 use Rattle.std.proofs.lemmas.Bool.{cond_both, cond-true, cond-false, and_from, and_parts, le-leb, leb-true, eq-eqb, ne_eqb, not-true, both_ways, and_right, lt-leb}
 use Rattle.std.proofs.lemmas.List.{at_drop_more, at_drop_all}
 use Rattle.std.proofs.lemmas.Str.Parse.{IsNumeralModel, IsDigitsTest, FoldsDigits, numerals_by_fold}
-use Rattle.std.proofs.lemmas.Fmt.{AppendsLastDigit, decimal_from_appends, length-decimal-le_succ, decimal-digits_value, digits_value-decimal, digits_decimal, first_decimal, decimal_nonempty, decimal_digit}
-use Rattle.casefile.specs.Decimal.{last_digits, digits, is_decimal_digit, all_digits, needless_zero, is_number, value_after, number_in, ReadsBack, NumberLaws}
+use Rattle.std.proofs.lemmas.Fmt.{AppendsLastDigit, decimal_from_appends, length-decimal-le_succ, decimal-digits_value, digits_value-decimal, digits_decimal, first_decimal, decimal_nonempty, decimal_digit, decimal_step, length-decimal-le}
+use Rattle.casefile.specs.Decimal.{digit, last_digits, digits, is_decimal_digit, all_digits, needless_zero, is_number, value_after, number_in, ReadsBack, NumberLaws}
 
 tells_all_digits : IsDigitsTest (λ ds. all_digits ds ≡ true)
 tells_all_digits = search rules
@@ -20,6 +20,19 @@ spells = search rules
 
 pub digits_decimal_is : (n : ℕ) → n < 2 ^ 64 → digits n ≡ decimal n
 digits_decimal_is n small = decimal_from_appends last_digits spells (suc n) n small (rw add-one at (length-decimal-le_succ n small))
+
+-- a number below ten is one digit
+pub digits_one : (n : ℕ) → n < 10 → digits n ≡ digit n ∷ []
+digits_one n small = digits_decimal_is n (omega arith) ∙ decimal_digit n small
+
+-- any other is the digits of its tenth part, and then its last digit
+pub digits_more : (n : ℕ) → 10 ≤ n → n < 2 ^ 64 → digits n ≡ digits (n / 10) ++ digit (n % 10) ∷ []
+digits_more n large small =
+    digits_decimal_is n small ∙ decimal_step n large small ∙ ap (λ ds. ds ++ digit (n % 10) ∷ []) (sym (digits_decimal_is (n / 10) (omega arith)))
+
+-- a number below a power of ten has at most so many digits
+pub digits_few : (k n : ℕ) → 0 < k → n < 10 ^ k → n < 2 ^ 64 → length (digits n) ≤ k
+digits_few k n some few small = rw (digits_decimal_is n small) (length-decimal-le k n some few small)
 
 -- the text of a number is digits
 pub digits_all : (n : ℕ) → n < 2 ^ 64 → all_digits (digits n) ≡ true

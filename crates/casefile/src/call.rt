@@ -17,7 +17,8 @@ pub const MOST_CLASS: u32 = 255;
 // The largest amount that a line may name.
 pub const MOST_AMOUNT: u32 = 4_294_967_295;
 
-// The rules that a line can name. An enum of the case file's own: this crate stands on no other, a rule of the project.
+// The rules that a line can name. Not the enum of `division`: a type of another crate could not be made of bytes here
+// (`TryFrom`), and whoever reads case files needs no rule.
 #[derive(Clone, Copy, Debug, PartialEq, Eq)]
 pub enum RuleName {
     Priority,

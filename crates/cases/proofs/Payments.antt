@@ -1,7 +1,5 @@
 -- One row more of writing awards and of settling. Assumes nothing.
-use Rattle.std.proofs.Common.{◌≡◌, ℕ, zero, suc, ◌+◌, ◌-◌, ◌<◌, ◌≤◌, List, [], ◌∷◌, ◌++◌, map, length, get_or, take, drop, set, ◌+ℤ◌, refl, ap, ◌∙◌, append-nil, add-one, arith}
-use borrow.Rule.Slice.PartMut.{put_mid}
-use Rattle.std.proofs.lemmas.List.{take_all, drop_all}
+use Rattle.std.proofs.Common.{◌≡◌, ℕ, zero, suc, ◌+◌, ◌<◌, ◌≤◌, List, [], ◌∷◌, ◌++◌, map, length, get_or, take, drop, set, ◌+ℤ◌, refl, ap, add-one, arith}
 use Rattle.std.proofs.lemmas.Int.{ints}
 use Rattle.cases.specs.declared.row.Row.{Row}
 use Rattle.cases.specs.declared.row.Posting.{Posting}
@@ -23,9 +21,6 @@ awards_suc (a ∷ new) (row ∷ rows) (suc i) d e h = ap (λ rs. set_award a row
 pub awards_more : (new : List ℕ) (rows : List Row) (i : ℕ) (d : Row) → length new ≡ length rows → i < length rows → set (with_awards (take i new) rows) i (set_award (get_or new i 0) (get_or (with_awards (take i new) rows) i d)) ≡ with_awards (take (i + 1) new) rows
 awards_more new rows i d e h = rw (add-one i) (awards_suc new rows i d e h)
 
-pub awards_all : (new : List ℕ) (rows : List Row) (i : ℕ) → length new ≡ length rows → length rows ≤ i → with_awards (take i new) rows ≡ with_awards new rows
-awards_all new rows i e h = ap (λ l. with_awards l rows) (take_all i new (omega arith))
-
 module _ {X Y : Type 0} (f : X → Y) where
   mapped_suc : (xs : List X) (out : List Y) (i : ℕ) (d : X) → i < length xs → length xs ≤ length out → set (map f (take i xs) ++ drop i out) i (f (get_or xs i d)) ≡ map f (take (suc i) xs) ++ drop (suc i) out
   mapped_suc [] out i d h room = absurd (omega arith)
@@ -46,12 +41,3 @@ next_as_was (row ∷ rows) (suc i) d h = next_as_was rows i d (omega arith)
 pub balance_push : (ps : List Posting) (p : Posting) → balance (ps ++ p ∷ []) ≡ balance ps +ℤ p.amount
 balance_push [] p = omega (arith, ints)
 balance_push (q ∷ ps) p = omega (arith, ints, balance_push ps p)
-
--- a list with one line written at its front and others behind it
-pub lines_written : (old part : List Posting) (p : Posting) (ps : List Posting) (n : ℕ) → 1 ≤ length old → part ≡ ps ++ drop n (take (length old - 1) (drop 1 old)) → set (put_mid 1 (length old - 1) old part) 0 p ≡ p ∷ (ps ++ drop (suc n) old)
-lines_written [] part p ps n h is = absurd (omega arith)
-lines_written (o ∷ os) part p ps n h is =
-    let long : length (o ∷ os) - 1 ≡ length os = omega arith in
-    let rest = ap (λ k. drop k os) long ∙ drop_all (length os) os (omega arith) in
-    let whole = ap (λ k. take k os) long ∙ take_all (length os) os (omega arith) in
-    ap (λ l. p ∷ l) (ap (λ l. part ++ l) rest ∙ append-nil part ∙ is ∙ ap (λ l. ps ++ drop n l) whole)

@@ -6,7 +6,7 @@ mod dues;
 pub mod keeping;
 pub mod signing;
 
-// What a case waits for. No sheet is out of a case whose awards are not worked.
+// How far a case is. No sheet is out of a case whose awards are not worked.
 #[derive(Clone, Copy, Debug, PartialEq, Eq)]
 enum Stage {
     Unworked,

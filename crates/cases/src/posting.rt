@@ -14,7 +14,7 @@ pub(crate) fn write_awards(rows: &mut [Row], awards: &[u32])
     requires { length awards.now ≡ length rows.old }
     ensures rows { rows.new ≡ with_awards awards.now rows.old }
 {
-    // By index: after iter_mut().zip(awards) nothing is known of what stands in the rows, so that proof does not close.
+    // By index: tried by iter_mut().zip(awards), after which nothing is known of the rows, so that the proof does not close.
     for (i, row) in rows.iter_mut().enumerate() {
         row.award = awards[i];
     }

@@ -44,7 +44,7 @@ impl CaseRefusal {
     }
 }
 
-// A string of letters that is refused is what a press meets.
+// A press answers the refusal of a bad letter.
 impl From<LetterRefusal> for CaseRefusal {
     ghost from_gives = { λ letter refusal. refusal ≡ LetterRefused letter };
 

@@ -108,7 +108,8 @@ mod tests {
         Ok(equal)
     }
 
-    // What the keeper's calls answer while that sheet is out: it stays the case's.
+    // What the keeper's calls answer while that sheet is out: it stays the case's. A struct of the case and its sheet would have
+    // to own the case, and every test would hand it on and take it back: no plainer.
     fn admit_out(
         case: &mut Case,
         sheet: &Sheet,
@@ -212,12 +213,9 @@ mod tests {
         assert!(rt; rows[1].paid == second.0 && rows[1].award == second.1);
     }
 
-    // What is posted to a claimant, and a million where nothing is.
-    fn posted(postings: &[Posting], number: u32) -> i64 {
-        match find_posting(postings, number) {
-            Some(posting) => posting.amount,
-            None => 1_000_000,
-        }
+    // What is posted to a claimant.
+    fn posted(postings: &[Posting], number: u32) -> Option<i64> {
+        find_posting(postings, number).map(|posting| posting.amount)
     }
 
     #[test]
@@ -358,7 +356,7 @@ mod tests {
         assert!(rt; list[1].number == 11 && list[1].amount == 100);
         assert!(rt; list[2].number == 12 && list[2].amount == 100);
         assert!(rt; list[3].number == 9 && list[3].amount == 9);
-        assert_eq!(rt; posted(&list, 12), 100);
+        assert_eq!(rt; posted(&list, 12), Some(100));
         assert!(rt; find_posting(&list, 13).is_none());
         paid_and_awarded(&rt, &case, (100, 100), (100, 100));
         assert_eq!(rt; drawing(&mut case), Err(13));

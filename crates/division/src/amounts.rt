@@ -8,7 +8,7 @@ pub fn less_awards(claims: &[u32], awards: &mut [u32])
     ensures awards { awards.new ≡ less_over claims.now awards.old }
 {
     let count = claims.len().min(awards.len());
-    // By place: after iter_mut().zip(claims) nothing is known of what stands in the awards, so that proof does not close.
+    // By place: tried by iter_mut().zip(claims), after which nothing is known of the awards, so that the proof does not close.
     for (place, claim) in claims[..count].iter().enumerate() {
         awards[place] = claim.saturating_sub(awards[place]);
     }

@@ -55,7 +55,7 @@ pub(crate) fn add_to(amounts: &[u32], awards: &mut [u32])
     requires small { total amounts.now + total awards.old ≤ most_total }
     ensures awards { awards.new ≡ plus amounts.now awards.old }
 {
-    // By place: after iter_mut().zip(amounts) nothing is known of what stands in the awards, so that proof does not close.
+    // By place: tried by iter_mut().zip(amounts), after which nothing is known of the awards; the proof does not close.
     for (place, amount) in amounts.iter().enumerate() {
         awards[place] += *amount;
     }

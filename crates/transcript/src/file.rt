@@ -10,10 +10,9 @@ ghost use Rattle.transcript.specs.Transcripts.{Transcribed};
 ghost use Rattle.transcript.specs.Running.{running, Ran};
 
 use crate::outcome::Outcome;
-use crate::outcome::writing::{LEAST_BUFFER, push_refused};
+use crate::outcome::writing::{LEAST_BUFFER, refused_text};
 use crate::refusal::RunRefusal;
 use crate::runner::{OpenRefusal, Runner};
-use crate::text::Text;
 use std::alloc::{AllocError, Global};
 
 // The number of the case that a file is run against.
@@ -46,9 +45,7 @@ fn push_ending(told: Option<Outcome>, text: &mut Vec<u8>) -> Result<(), AllocErr
 fn push_refusal(refusal: RunRefusal, text: &mut Vec<u8>) -> Result<(), AllocError>
     ensures text { OnOk result (text.new.items ≡ text.old.items ++ as_text (refused_fields 0 (run_number refusal) ∷ [])) }
 {
-    let mut line = Text::new();
-    push_refused(&mut line, 0, refusal.number());
-    text.extend_from_slice(line.as_bytes())
+    text.extend_from_slice(refused_text(0, refusal.number()).as_bytes())
 }
 
 // The text that is printed for a file: a new case is made, the lines of the file are run against it, and what each comes

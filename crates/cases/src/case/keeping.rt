@@ -13,8 +13,7 @@ use crate::refusal::CaseRefusal;
 use crate::row::Row;
 use crate::sheet::Sheet;
 use crate::table::Table;
-use arrayvec::ArrayVec;
-use division::problem::MOST_CLAIMS;
+use division::problem::{Amounts, MOST_CLAIMS};
 use division::rule::Rule;
 use normal_form::form::Form;
 use normal_form::pile::apply_form;
@@ -123,14 +122,14 @@ impl Case {
     }
 
     // The awards of the case's form, where no refusal is due.
-    fn work_awards<R: Rule>(&self, rule: &R) -> ArrayVec<u32, MOST_CLAIMS>
+    fn work_awards<R: Rule>(&self, rule: &R) -> Amounts
         requires due { divide_due (view self.now) ≡ None }
         ensures long { length result.items ≡ length (view self.now).rows }
         ensures awards { result.items ≡ awards_by (view self.now) (R.Rule.awards rule.now) }
     {
         let claims = self.table.claims();
         let classes = self.table.classes();
-        let mut awards = ArrayVec::from([0; MOST_CLAIMS]);
+        let mut awards = Amounts::from([0; MOST_CLAIMS]);
         awards.truncate(claims.len());
         match apply_form(&self.form, rule, &classes, &claims, self.fund, &mut awards) {
             Ok(()) => awards,

@@ -13,7 +13,7 @@ use crate::posting::{write_awards, write_lines};
 use crate::row::{Posting, Row};
 use crate::table::Table;
 use arrayvec::ArrayVec;
-use division::problem::MOST_CLAIMS;
+use division::problem::{Amounts, MOST_CLAIMS};
 use std::alloc::{AllocError, Global};
 
 impl Table {
@@ -114,7 +114,7 @@ impl Table {
     }
 
     // The amounts, as the claims of a problem.
-    pub(crate) fn claims(&self) -> ArrayVec<u32, MOST_CLAIMS>
+    pub(crate) fn claims(&self) -> Amounts
         ensures claims { result.items ≡ amounts self.now.rows.items }
     {
         self.column(|row| row.amount)
@@ -127,7 +127,8 @@ impl Table {
         self.column(|row| row.class)
     }
 
-    // One value of each row, in order. It is this crate's own, since a public function has no requires.
+    // One value of each row, in order. It is this crate's own: a function that calls a closure asks that it may be called, and
+    // no public function has a requires.
     fn column<T: Default + Drop, F: Fn(&Row) -> T>(&self, of: F) -> ArrayVec<T, MOST_CLAIMS>
         requires { F.IsAlwaysCallable of }
         ensures each { AllZip (λ row value. FnReturnsAt F.Fn of row value) self.now.rows.items result.items }

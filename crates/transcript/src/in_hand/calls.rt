@@ -116,7 +116,7 @@ impl CaseInHand {
         }
     }
 
-    // Does what a line asks for.
+    // Does what a line asks for. `Call` names a claimant by 32 bits, as it always did; that they fit a row's 16 is asked here.
     fn perform(&mut self, call: Call<'_>) -> Result<Outcome, Refusal>
         requires fits { ClaimantFits (asked call) }
         ensures turn { Answers (asked_turn (asked call.entry) (in_hand self.old)) result (in_hand self.new) }
@@ -162,7 +162,7 @@ impl CaseInHand {
         match case.return_sheet(sheet?) {
             Ok(()) => Some(Outcome::Returned),
             // The sheet in hand is the case's own, so the case takes it.
-            Err((_, _)) => unreachable!(),
+            Err((_, _)) => unreachable(),
         }
     }
 }
@@ -176,14 +176,14 @@ fn compare_fields(left: &[u8], right: &[u8]) -> Result<Outcome, Refusal>
     Ok(Outcome::Compared(compare(left, right)?))
 }
 
-// Puts a sheet where none is. A sheet can not be let go, so that an assignment, which would let the old one go, is refused.
+// Puts a sheet where none is. A sheet cannot be let go, so that an assignment, which would let the old one go, is refused.
 fn put_sheet(slot: &mut Option<Sheet>, sheet: Sheet)
     requires { slot.old ≡ None }
     ensures slot { slot.new ≡ Some sheet }
 {
     match slot.replace(sheet) {
         None => {}
-        Some(_) => unreachable!(),
+        Some(_) => unreachable(),
     }
 }
 

@@ -70,30 +70,32 @@ fn push_entries<E: Entry>(text: &mut Text, entries: &[E])
     }
 }
 
-// The lines of a division: its awards, and the estate that was divided.
-fn push_division(text: &mut Text, division: &Division)
-    requires { text.old ≡ [] }
-    ensures { text.new ≡ as_text (map award_fields division.now.rows.items ++ (codes "total" ∷ digits division.now.estate ∷ []) ∷ []) }
+// The text of a division: its awards, and the estate that was divided.
+fn division_text(division: &Division) -> Text
+    ensures { result ≡ as_text (map award_fields division.now.rows.items ++ (codes "total" ∷ digits division.now.estate ∷ []) ∷ []) }
 {
-    push_entries(text, division.rows());
+    let mut text = Text::new();
+    push_entries(&mut text, division.rows());
     let mut estate = Buffer::new();
     text.push_line(b"total", &[estate.format(division.estate).as_bytes()]);
+    text
 }
 
-// The lines of a signing: its postings, and that it was signed.
-fn push_signing(text: &mut Text, postings: &Postings)
-    requires { text.old ≡ [] }
-    ensures { text.new ≡ as_text (map post_fields postings.now.list.items ++ (codes "signed" ∷ []) ∷ []) }
+// The text of a signing: its postings, and that it was signed.
+fn signing_text(postings: &Postings) -> Text
+    ensures { result ≡ as_text (map post_fields postings.now.list.items ++ (codes "signed" ∷ []) ∷ []) }
 {
-    push_entries(text, postings.list());
+    let mut text = Text::new();
+    push_entries(&mut text, postings.list());
     text.push_line(b"signed", &[]);
+    text
 }
 
-// The line of a comparison.
-fn push_comparison(text: &mut Text, comparison: &Comparison)
-    requires { text.old ≡ [] }
-    ensures { (line : ℕ) → text.new ≡ text_of line (compared comparison.now) }
+// The text of a comparison.
+fn comparison_text(comparison: &Comparison) -> Text
+    ensures { (line : ℕ) → result ≡ text_of line (compared comparison.now) }
 {
+    let mut text = Text::new();
     match comparison {
         Comparison::Same(form) => {
             let form = form.text();
@@ -105,41 +107,52 @@ fn push_comparison(text: &mut Text, comparison: &Comparison)
             text.push_line(b"differ", &[first.as_bytes(), second.as_bytes()]);
         }
     }
+    text
 }
 
-// The line of a refusal: the number of the line that was refused, and that of the refusal.
-pub(crate) fn push_refused(text: &mut Text, line: usize, number: u8)
-    requires { text.old ≡ [] }
-    ensures { text.new ≡ as_text (refused_fields line number ∷ []) }
+// The text of a sheet that was drawn.
+fn drawn_text(rows: usize, total: u64) -> Text
+    ensures { result ≡ as_text ((codes "sheet" ∷ digits rows ∷ digits total ∷ []) ∷ []) }
 {
+    let mut text = Text::new();
+    text.push_numbers(b"sheet", rows, total);
+    text
+}
+
+// The text of a refusal: the number of the line that was refused, and that of the refusal.
+pub(crate) fn refused_text(line: usize, number: u8) -> Text
+    ensures { result ≡ as_text (refused_fields line number ∷ []) }
+{
+    let mut text = Text::new();
     text.push_numbers(b"refused", line, number);
+    text
+}
+
+// The text of one word.
+fn word_text(word: &[u8]) -> Text
+    requires { length word.now + 1 ≤ least_buffer }
+    ensures { result ≡ as_text ((word.now ∷ []) ∷ []) }
+{
+    let mut text = Text::new();
+    text.push_line(word, &[]);
+    text
 }
 
 impl Outcome {
-    // The lines of the outcome.
-    fn push_to(&self, line: usize, text: &mut Text)
-        requires { text.old ≡ [] }
-        ensures { text.new ≡ text_of line (told self.now) }
-    {
-        match self {
-            Outcome::Remark => {}
-            Outcome::Accepted => text.push_line(b"ok", &[]),
-            Outcome::Divided(division) => push_division(text, division),
-            Outcome::Drawn { rows, total } => text.push_numbers(b"sheet", *rows, *total),
-            Outcome::Signed(postings) => push_signing(text, postings),
-            Outcome::Returned => text.push_line(b"returned", &[]),
-            Outcome::Compared(comparison) => push_comparison(text, comparison),
-            Outcome::Refused(refusal) => push_refused(text, line, refusal.number()),
-        }
-    }
-
     // The text of the outcome of a line, whose number a refusal alone names.
     pub(crate) fn text(&self, line: usize) -> Text
         ensures { result ≡ text_of line (told self.now) }
     {
-        let mut text = Text::new();
-        self.push_to(line, &mut text);
-        text
+        match self {
+            Outcome::Remark => Text::new(),
+            Outcome::Accepted => word_text(b"ok"),
+            Outcome::Divided(division) => division_text(division),
+            Outcome::Drawn { rows, total } => drawn_text(*rows, *total),
+            Outcome::Signed(postings) => signing_text(postings),
+            Outcome::Returned => word_text(b"returned"),
+            Outcome::Compared(comparison) => comparison_text(comparison),
+            Outcome::Refused(refusal) => refused_text(line, refusal.number()),
+        }
     }
 
     // Writes the text of the outcome of a line into the front of a buffer, leaves what lies behind as it was, and answers

@@ -1,7 +1,7 @@
 use Rattle.std.proofs.Common.{◌≡◌, length, ap, sym, ◌∙◌, arith}
 use Rattle.division.specs.Amounts.{total}
 use Rattle.operators.specs.ClassLaws.{total-of_class}
-use Rattle.operators.proofs.Problems.{never_refused, asked_awards}
+use Rattle.operators.proofs.Problems.{never_refused}
 use Rattle.operators.proofs.Turns.{Turn, turn}
 use Rattle.operators.proofs.seniority.Seniority.serve.Given as given
 use Rattle.operators.proofs.seniority.Seniority.serve.Goals as goal
@@ -18,10 +18,6 @@ asked g c =
 -- with a place for each claim
 room : (g : given.Over) (c : After-divide g) → length c.deref_mut.result.now ≡ length c.deref-2.result.now
 room g c = ap length c.deref_mut.ensures.value ∙ c.of_each-part.ensures.long ∙ sym (asked g c).as_long
-
--- and gave its awards for it
-given_part : (g : given.Over) (c : After-divide g) → c.divide.new.out ≡ g.R.Rule.awards c.args.self.now.rule c.deref-2.result.now c.min-share.result
-given_part g c = asked_awards _ _ _ (asked g c).sound (room g c) _ _ _ c.divide.ensures.awards
 
 pub total_of-requires : goal.total_of-requires
 total_of-requires g c =
