@@ -108,6 +108,10 @@ reads_back text limit read small e = subst (ReadsBack text limit) (sym e) (numbe
 abbrev pub read_on : ℕ → ℕ → List ℕ → Option ℕ
 read_on limit n rest = cond (all_digits rest && leb (value_after n rest) limit) (Some (value_after n rest)) None
 
+pub read_start : (text : List ℕ) (limit : ℕ) → 0 < length text → needless_zero text ≡ false → read_on limit 0 text ≡ number_in text limit
+read_start text limit some plain =
+    ap (λ v. cond (v && leb (value_after 0 text) limit) (Some (value_after 0 text)) None) (sym (is_number_plain text some plain))
+
 at_place : (limit n : ℕ) (text : List ℕ) (i : ℕ) → i < length text → read_on limit n (drop i text) ≡ read_on limit n (get_or text i 0 ∷ drop (i + 1) text)
 at_place limit n text i within = at_drop_more (read_on limit n) text i 0 within
 

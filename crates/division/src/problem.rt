@@ -84,15 +84,15 @@ impl<'a> Problem<'a> {
         self.sum - self.estate
     }
 
-    // The base share of each claim.
-    pub(crate) fn parts<S: Share>(&self, share: &S) -> Amounts
-        ensures parts { result.items ≡ map (S.base share.now) self.now.claims.now }
+    // Writes the base share of each claim.
+    pub(crate) fn write_parts<S: Share>(&self, share: &S, out: &mut [u32])
+        requires room { length out.old ≡ length self.now.claims.now }
+        ensures parts { out.new ≡ map (S.base share.now) self.now.claims.now }
     {
-        let mut parts = Amounts::new();
-        for claim in self.claims {
-            parts.push(share.part(*claim));
+        // By place: a proof knows nothing of what a loop over iter_mut().zip(..) wrote.
+        for (place, claim) in self.claims.iter().enumerate() {
+            out[place] = share.part(*claim);
         }
-        parts
     }
 
     // What the base shares of the claims add up to, which is no more than the claims do. With the places, as every sum.

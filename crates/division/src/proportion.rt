@@ -1,9 +1,9 @@
 // Proportion: the same part of each claim, rounded down, and the missing units to the first claims that were rounded.
-ghost use Rattle.std.specs.Prelude.{◌≡◌, ◌*◌, ◌<◌, ◌≤◌};
+ghost use Rattle.std.specs.Prelude.{◌≡◌, ◌*◌, ◌<◌, ◌≤◌, length};
 ghost use Rattle.division.specs.Proportion.{part, rounded, proportion};
 ghost use Rattle.division.specs.ProportionLawful.{proportion_lawful, prorated_room};
 
-use crate::problem::{Amounts, Problem};
+use crate::problem::Problem;
 use crate::refusal::RuleRefusal;
 use crate::rule::Rule;
 use crate::share::{Share, hand_out};
@@ -59,19 +59,20 @@ impl Rule for Proportion {
             // Where the claims add up to nothing, every claim is 0, and so is its award.
             out.copy_from_slice(claims);
         } else {
-            out.copy_from_slice(&pay_parts(&problem));
+            pay_parts(&problem, out);
         }
         Ok(())
     }
 }
 
 // Pays each claim its part, and the missing units to the first claims that were rounded.
-fn pay_parts(problem: &Problem<'_>) -> Amounts
+fn pay_parts(problem: &Problem<'_>, out: &mut [u32])
     requires some { 0 < problem.now.sum }
-    ensures awards { result.items ≡ proportion problem.now.claims.now problem.now.estate }
+    requires room { length out.old ≡ length problem.now.claims.now }
+    ensures awards { out.new ≡ proportion problem.now.claims.now problem.now.estate }
 {
     let Problem { estate, sum, .. } = *problem;
     let share = Prorated { estate, sum };
     let paid = problem.base_total(&share);
-    hand_out(problem, &share, estate - paid)
+    hand_out(problem, &share, estate - paid, out);
 }

@@ -1,9 +1,9 @@
 // Shares in whole units: every rule but priority gives each claim a base share, and then hands single units that are
 // left to the first claims that are marked for one.
-ghost use Rattle.std.specs.Prelude.{◌≡◌, ℕ, Bool};
+ghost use Rattle.std.specs.Prelude.{◌≡◌, ℕ, Bool, length};
 ghost use Rattle.division.specs.Units.{Room, one_unit, topped_up};
 
-use crate::problem::{Amounts, Problem};
+use crate::problem::Problem;
 
 pub(crate) trait Share {
     // A claim's base share.
@@ -30,16 +30,17 @@ fn unit_for(marked: bool, left: u32) -> u32
     u32::from(marked && left > 0)
 }
 
-// Each claim's base share, and one unit more for each of the first `units` claims that are marked.
-pub(crate) fn hand_out<S: Share>(problem: &Problem<'_>, share: &S, units: u32) -> Amounts
-    ensures awards { result.items ≡ topped_up (S.base share.now) (S.marked share.now) units problem.now.claims.now }
+// Writes each claim's base share, and one unit more for each of the first `units` claims that are marked. They go into the
+// list that is lent: made as a value, answered and copied, they took up to 1.75 times the time.
+pub(crate) fn hand_out<S: Share>(problem: &Problem<'_>, share: &S, units: u32, out: &mut [u32])
+    requires room { length out.old ≡ length problem.now.claims.now }
+    ensures awards { out.new ≡ topped_up (S.base share.now) (S.marked share.now) units problem.now.claims.now }
 {
     let mut left = units;
-    let mut awards = Amounts::new();
-    for claim in problem.claims {
+    // By place: a proof knows nothing of what a loop over iter_mut().zip(..) wrote.
+    for (place, claim) in problem.claims.iter().enumerate() {
         let unit = unit_for(share.marks(*claim), left);
-        awards.push(share.part(*claim) + unit);
+        out[place] = share.part(*claim) + unit;
         left -= unit;
     }
-    awards
 }

@@ -1,6 +1,6 @@
 // The Talmud rule, after Aumann and Maschler (1985): equal awards on half the claims while the estate is small, equal
 // losses on the other half while it is large.
-ghost use Rattle.std.specs.Prelude.{◌≡◌, ◌+◌, ◌≤◌};
+ghost use Rattle.std.specs.Prelude.{◌≡◌, ◌+◌, ◌≤◌, length};
 ghost use Rattle.division.specs.Amounts.{total, less};
 ghost use Rattle.division.specs.EqualAwards.{equal_awards};
 ghost use Rattle.division.specs.Units.{how_many};
@@ -9,7 +9,7 @@ ghost use Rattle.division.specs.TalmudLawful.{talmud_lawful, halved_room};
 
 use crate::amounts::less_awards;
 use crate::equal_awards::pay_equally;
-use crate::problem::{Amounts, Problem};
+use crate::problem::{MOST_CLAIMS, Problem};
 use crate::refusal::RuleRefusal;
 use crate::rule::Rule;
 use crate::share::{Share, hand_out};
@@ -44,45 +44,50 @@ impl Rule for Talmud {
 
     fn divide(&self, claims: &[u32], estate: u32, out: &mut [u32]) -> Result<(), RuleRefusal> {
         let problem = Problem::new(claims, estate, out.len())?;
-        out.copy_from_slice(&pay_by_range(&problem));
+        pay_by_range(&problem, out);
         Ok(())
     }
 }
 
 // The halves decide in which range the estate lies.
-fn pay_by_range(problem: &Problem<'_>) -> Amounts
-    ensures awards { result.items ≡ talmud problem.now.claims.now problem.now.estate }
+fn pay_by_range(problem: &Problem<'_>, out: &mut [u32])
+    requires room { length out.old ≡ length problem.now.claims.now }
+    ensures awards { out.new ≡ talmud problem.now.claims.now problem.now.estate }
 {
     let estate = problem.estate;
     let middle = problem.base_total(&Halved);
     if estate <= middle {
-        pay_on_halves(problem, estate)
+        pay_on_halves(problem, estate, out);
     } else if estate >= middle + problem.marked_count(&Halved) {
-        pay_losses(problem, problem.loss())
+        pay_losses(problem, problem.loss(), out);
     } else {
-        hand_out(problem, &Halved, estate - middle)
+        hand_out(problem, &Halved, estate - middle, out);
     }
 }
 
 // Each claim less an equal award of the loss on its half.
-fn pay_losses(problem: &Problem<'_>, loss: u32) -> Amounts
+fn pay_losses(problem: &Problem<'_>, loss: u32, out: &mut [u32])
     requires covered { loss ≤ total (halves problem.now.claims.now) }
-    ensures awards { result.items ≡ less problem.now.claims.now (equal_awards (halves problem.now.claims.now) loss) }
+    requires room { length out.old ≡ length problem.now.claims.now }
+    ensures awards { out.new ≡ less problem.now.claims.now (equal_awards (halves problem.now.claims.now) loss) }
 {
-    let mut awards = pay_on_halves(problem, loss);
-    less_awards(problem.claims, &mut awards);
-    awards
+    pay_on_halves(problem, loss, out);
+    less_awards(problem.claims, out);
 }
 
 // Equal awards on half of each claim.
-fn pay_on_halves(problem: &Problem<'_>, shared: u32) -> Amounts
+fn pay_on_halves(problem: &Problem<'_>, shared: u32, out: &mut [u32])
     requires covered { shared ≤ total (halves problem.now.claims.now) }
-    ensures awards { result.items ≡ equal_awards (halves problem.now.claims.now) shared }
+    requires room { length out.old ≡ length problem.now.claims.now }
+    ensures awards { out.new ≡ equal_awards (halves problem.now.claims.now) shared }
 {
-    let halves = problem.parts(&Halved);
-    pay_equally(&Problem {
-        claims: &halves,
+    let mut scratch = [0; MOST_CLAIMS];
+    let halves = &mut scratch[..problem.claims.len()];
+    problem.write_parts(&Halved, halves);
+    let halved = Problem {
+        claims: halves,
         estate: shared,
         sum: problem.base_total(&Halved),
-    })
+    };
+    pay_equally(&halved, out);
 }

@@ -25,6 +25,12 @@ turn class classes claims left mine sum share estate s mine_is added smaller =
       as_long = ap length mine_is ∙ length-of_class class classes claims;
     }
 
+-- what the turn adds is as long as the claims, and adds up to the share
+pub turn_shares : {class : ℕ} {classes claims : List ℕ} {left : ℕ} {mine : List ℕ} {share : ℕ} → Turn class classes claims left mine share → (f : Meaning) → Lawful f → (part : List ℕ) → part ≡ f mine share → (length part ≡ length claims) × (total part ≤ left)
+turn_shares {class} {classes} {claims} {left} {mine} {share} t f law part e =
+    let shared = law mine share t.sound in
+    (omega (arith, ap length e, shared.as_long, t.as_long), omega (arith, ap total e, shared.spent, t.share_is))
+
 replicate_nothing : (claims : List ℕ) → replicate (length claims) 0 ≡ nothing claims
 replicate_nothing [] = refl
 replicate_nothing (c ∷ cs) = ap (λ xs. 0 ∷ xs) (replicate_nothing cs)

@@ -1,39 +1,41 @@
-// Work on lists of amounts, place by place. No list has more places than a problem may have claims.
+// Work on lists of amounts, place by place. No list has more places than a problem may have claims, so that scratch lists are
+// arrays, of which whoever asks lends the front.
 ghost use Rattle.std.specs.Prelude.{◌≡◌, ℕ, ◌+◌, ◌≤◌, map, length};
 ghost use Rattle.division.specs.Amounts.{total, cut, plus};
 ghost use Rattle.division.specs.Problem.{most_total};
 ghost use Rattle.operators.specs.Operators.{rights};
 
-use division::problem::{Amounts, Problem};
+use division::problem::Problem;
 
-// What a function makes of each claim. It is this crate's own: a function that calls a closure asks that it may be called,
-// and no public function has a requires.
-pub(crate) fn of_each<F: Fn(u32) -> u32>(problem: &Problem<'_>, amount: F) -> Amounts
+// Writes what a function makes of each claim. It is this crate's own: a function that calls a closure asks that it may be
+// called, and no public function has a requires.
+pub(crate) fn of_each<F: Fn(u32) -> u32>(problem: &Problem<'_>, amount: F, out: &mut [u32])
     requires callable { F.IsAlwaysCallable amount }
-    ensures long { length result.items ≡ length problem.now.claims.now }
-    ensures amounts { (g : ℕ → ℕ) → ((c a : ℕ) → F.post amount c a → a ≡ g c) → result.items ≡ map g problem.now.claims.now }
+    requires room { length out.old ≡ length problem.now.claims.now }
+    ensures amounts { (g : ℕ → ℕ) → ((c a : ℕ) → F.post amount c a → a ≡ g c) → out.new ≡ map g problem.now.claims.now }
 {
-    let mut amounts = Amounts::new();
-    for claim in problem.claims {
-        amounts.push(amount(*claim));
+    // By place: a proof knows nothing of what a loop over iter_mut().zip(..) wrote.
+    for (place, claim) in problem.claims.iter().enumerate() {
+        out[place] = amount(*claim);
     }
-    amounts
 }
 
-// Each claim cut to at most `most`.
+// Writes each claim cut to at most `most`.
 #[tactic(auto, using(crate::proofs::Made::cut_made))]
-pub(crate) fn cut_claims(problem: &Problem<'_>, most: u32) -> Amounts
-    ensures claims { result.items ≡ cut most problem.now.claims.now }
+pub(crate) fn cut_claims(problem: &Problem<'_>, most: u32, out: &mut [u32])
+    requires room { length out.old ≡ length problem.now.claims.now }
+    ensures claims { out.new ≡ cut most problem.now.claims.now }
 {
-    of_each(problem, |claim| claim.min(most))
+    of_each(problem, |claim| claim.min(most), out);
 }
 
-// The minimal right of each claim.
+// Writes the minimal right of each claim.
 #[tactic(auto, using(crate::proofs::Made::rights_made))]
-pub(crate) fn rights_of(problem: &Problem<'_>, loss: u32) -> Amounts
-    ensures rights { result.items ≡ rights loss problem.now.claims.now }
+pub(crate) fn rights_of(problem: &Problem<'_>, loss: u32, out: &mut [u32])
+    requires room { length out.old ≡ length problem.now.claims.now }
+    ensures rights { out.new ≡ rights loss problem.now.claims.now }
 {
-    of_each(problem, |claim| claim.saturating_sub(loss))
+    of_each(problem, |claim| claim.saturating_sub(loss), out);
 }
 
 // What amounts that came from a sound problem add up to. With the places, as every sum; this crate's own, since a public

@@ -4,7 +4,7 @@ ghost use Rattle.operators.specs.Operators.{minimal_rights};
 ghost use Rattle.operators.specs.RightsLawful.{minimal_rights_lawful};
 
 use crate::amounts::{add_to, cut_claims, rights_of, total_of};
-use division::problem::Problem;
+use division::problem::{MOST_CLAIMS, Problem};
 use division::refusal::RuleRefusal;
 use division::rule::Rule;
 
@@ -37,12 +37,16 @@ impl<R: Rule> Rule for MinimalRights<R> {
     fn divide(&self, claims: &[u32], estate: u32, out: &mut [u32]) -> Result<(), RuleRefusal> {
         let problem = Problem::new(claims, estate, out.len())?;
         let loss = problem.loss();
-        let own = rights_of(&problem, loss);
-        let own_total = total_of(&own);
+        let mut own_scratch = [0; MOST_CLAIMS];
+        let own = &mut own_scratch[..problem.claims.len()];
+        rights_of(&problem, loss, own);
+        let own_total = total_of(own);
         // A claim less its right is what the loss can reach of it.
-        let rest = cut_claims(&problem, loss);
-        self.rule.divide(&rest, estate - own_total, out)?;
-        add_to(&own, out);
+        let mut rest_scratch = [0; MOST_CLAIMS];
+        let rest = &mut rest_scratch[..problem.claims.len()];
+        cut_claims(&problem, loss, rest);
+        self.rule.divide(rest, estate - own_total, out)?;
+        add_to(own, out);
         Ok(())
     }
 }

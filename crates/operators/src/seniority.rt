@@ -9,9 +9,9 @@ ghost use Rattle.operators.specs.ClassListLaws.{order_once};
 ghost use Rattle.operators.specs.SeniorityLawful.{served_lawful};
 ghost use Rattle.operators.specs.declared.classes.ClassRefusal.TheVariants.{ClassOutsideRange};
 
-use crate::amounts::{add_to, of_each, total_of};
+use crate::amounts::{add_to, total_of};
 use crate::classes::{ClassOrder, ClassRefusal, check_classes, keep};
-use division::problem::{Amounts, MOST_CLAIMS, Problem};
+use division::problem::{MOST_CLAIMS, Problem};
 use division::refusal::RuleRefusal;
 use division::rule::Rule;
 
@@ -52,15 +52,15 @@ impl<R> Seniority<R> {
         rule
     }
 
-    // The claims of one class, with nothing at the other places.
-    fn claims_of(&self, class: u8, problem: &Problem<'_>) -> Amounts
-        ensures claims { result.items ≡ of_class class self.now.classes problem.now.claims.now }
+    // Writes the claims of one class, with nothing at the other places.
+    fn claims_of(&self, class: u8, problem: &Problem<'_>, out: &mut [u32])
+        requires room { length out.old ≡ length problem.now.claims.now }
+        ensures claims { out.new ≡ of_class class self.now.classes problem.now.claims.now }
     {
-        let mut mine = Amounts::new();
-        for (claim, own) in problem.claims.iter().zip(&self.classes) {
-            mine.push(claim_in(*claim, *own, class));
+        // By place: a proof knows nothing of what a loop over iter_mut().zip(..) wrote.
+        for (place, claim) in problem.claims.iter().enumerate() {
+            out[place] = claim_in(*claim, self.classes[place], class);
         }
-        mine
     }
 }
 
@@ -86,11 +86,14 @@ impl<R: Rule> Seniority<R> {
         ensures result { result ≡ Ok (left - class_share class self.now.classes problem.now.claims.now left) }
         ensures awards { awards.new ≡ plus (R.Rule.awards self.now.rule (of_class class self.now.classes problem.now.claims.now) (class_share class self.now.classes problem.now.claims.now left)) awards.old }
     {
-        let mine = self.claims_of(class, problem);
-        let share = total_of(&mine).min(left);
-        let mut part = of_each(problem, |_| 0);
-        self.rule.divide(&mine, share, &mut part)?;
-        add_to(&part, awards);
+        let mut mine_scratch = [0; MOST_CLAIMS];
+        let mine = &mut mine_scratch[..problem.claims.len()];
+        self.claims_of(class, problem, mine);
+        let share = total_of(mine).min(left);
+        let mut part_scratch = [0; MOST_CLAIMS];
+        let part = &mut part_scratch[..problem.claims.len()];
+        self.rule.divide(mine, share, part)?;
+        add_to(part, awards);
         Ok(left - share)
     }
 }

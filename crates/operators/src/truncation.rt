@@ -4,7 +4,7 @@ ghost use Rattle.operators.specs.Operators.{truncation};
 ghost use Rattle.operators.specs.TruncationLawful.{truncation_lawful};
 
 use crate::amounts::cut_claims;
-use division::problem::Problem;
+use division::problem::{MOST_CLAIMS, Problem};
 use division::refusal::RuleRefusal;
 use division::rule::Rule;
 
@@ -36,7 +36,9 @@ impl<R: Rule> Rule for Truncation<R> {
 
     fn divide(&self, claims: &[u32], estate: u32, out: &mut [u32]) -> Result<(), RuleRefusal> {
         let problem = Problem::new(claims, estate, out.len())?;
-        let all_cut = cut_claims(&problem, estate);
-        self.rule.divide(&all_cut, estate, out)
+        let mut scratch = [0; MOST_CLAIMS];
+        let all_cut = &mut scratch[..problem.claims.len()];
+        cut_claims(&problem, estate, all_cut);
+        self.rule.divide(all_cut, estate, out)
     }
 }

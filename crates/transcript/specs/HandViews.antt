@@ -29,14 +29,14 @@ pub record Comes (t : Turn) (outcome : Outcome) (after : InHand) : Type 0 where
   pub tells : told outcome ≡ t.told
   pub holds : after ≡ t.hand
 
--- what is told of an answer: its outcome, or the refusal
-abbrev pub told_of : Result Outcome Refusal → Told
-told_of (Ok outcome) = told outcome
-told_of (Err e) = refused e
+-- what is told of an answer: what its value says, or the refusal
+abbrev pub told_of : {T : Type 0} → (T → Told) → Result T Refusal → Told
+told_of say (Ok value) = say value
+told_of say (Err e) = refused e
 
--- an answer, and a case in hand afterwards, that are those of a turn
-pub record Answers (t : Turn) (answer : Result Outcome Refusal) (after : InHand) : Type 0 where
-  pub tells : told_of answer ≡ t.told
+-- what is told, and a case in hand afterwards, that are those of a turn
+pub record Answers (t : Turn) (tells_of : Told) (after : InHand) : Type 0 where
+  pub tells : tells_of ≡ t.told
   pub holds : after ≡ t.hand
 
 -- what is told of an outcome, if there is one

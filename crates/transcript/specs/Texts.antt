@@ -61,6 +61,15 @@ text_of line t = as_text (printed line t)
 abbrev pub least_buffer : ℕ
 least_buffer = 2048
 
+-- the most bytes that the text of one line may have
+abbrev pub most_printed : ℕ
+most_printed = 48
+
+-- a buffer that begins with a text of so many bytes, and behind it is as it was at the start
+pub record Begins (text : List ℕ) (size : ℕ) (out start : List ℕ) : Type 0 where
+  pub long : size ≡ length text
+  pub holds : out ≡ text ++ drop size start
+
 -- what writing a text into a buffer answers: how many bytes it has, never more than the least room asked for, and then
 -- the front of the buffer is the text and every byte behind is as it was; or a refusal where the buffer has too little
 -- room, and then it is as it was

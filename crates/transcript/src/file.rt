@@ -37,7 +37,14 @@ fn push_ending(told: Option<Outcome>, text: &mut Vec<u8>) -> Result<(), AllocErr
 {
     match told {
         None => Ok(()),
-        Some(outcome) => text.extend_from_slice(outcome.text(0).as_bytes()),
+        Some(outcome) => {
+            let mut buffer = [0; LEAST_BUFFER];
+            match outcome.write(0, &mut buffer) {
+                Ok(bytes) => text.extend_from_slice(&buffer[..bytes]),
+                // The buffer has the least room that is asked for.
+                Err(_) => unreachable(),
+            }
+        }
     }
 }
 

@@ -13,7 +13,7 @@ use crate::refusal::CaseRefusal;
 use crate::row::Row;
 use crate::sheet::Sheet;
 use crate::table::Table;
-use division::problem::{Amounts, MOST_CLAIMS};
+use division::problem::MOST_CLAIMS;
 use division::rule::Rule;
 use normal_form::form::Form;
 use normal_form::pile::apply_form;
@@ -115,24 +115,29 @@ impl Case {
         ensures history { Continues (Divide (R.Rule.awards rule.now) result) (view self.old) (view self.new) }
     {
         self.check_divide()?;
-        let awards = self.work_awards(rule);
-        self.table.award(&awards);
+        let mut scratch = [0; MOST_CLAIMS];
+        let awards = &mut scratch[..self.table.rows().len()];
+        self.work_awards(rule, awards);
+        self.table.award(awards);
         self.stage = Stage::Worked;
         Ok(())
     }
 
-    // The awards of the case's form, where no refusal is due.
-    fn work_awards<R: Rule>(&self, rule: &R) -> Amounts
+    // Writes the awards of the case's form, where no refusal is due.
+    fn work_awards<R: Rule>(&self, rule: &R, awards: &mut [u32])
         requires due { divide_due (view self.now) ≡ None }
-        ensures long { length result.items ≡ length (view self.now).rows }
-        ensures awards { result.items ≡ awards_by (view self.now) (R.Rule.awards rule.now) }
+        requires room { length awards.old ≡ length (view self.now).rows }
+        ensures awards { awards.new ≡ awards_by (view self.now) (R.Rule.awards rule.now) }
     {
-        let claims = self.table.claims();
-        let classes = self.table.classes();
-        let mut awards = Amounts::from([0; MOST_CLAIMS]);
-        awards.truncate(claims.len());
-        match apply_form(&self.form, rule, &classes, &claims, self.fund, &mut awards) {
-            Ok(()) => awards,
+        let count = self.table.rows().len();
+        let mut claim_scratch = [0; MOST_CLAIMS];
+        let claims = &mut claim_scratch[..count];
+        self.table.write_claims(claims);
+        let mut class_scratch = [0; MOST_CLAIMS];
+        let classes = &mut class_scratch[..count];
+        self.table.write_classes(classes);
+        match apply_form(&self.form, rule, classes, claims, self.fund, awards) {
+            Ok(()) => {}
             // A case keeps at most 64 rows, classes from 1 to 8 and a total within its limit, so no rule refuses it.
             Err(_) => unreachable(),
         }

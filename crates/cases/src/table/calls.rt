@@ -12,8 +12,7 @@ use crate::numbered::find;
 use crate::posting::{write_awards, write_lines};
 use crate::row::{Posting, Row};
 use crate::table::Table;
-use arrayvec::ArrayVec;
-use division::problem::{Amounts, MOST_CLAIMS};
+use division::problem::MOST_CLAIMS;
 use std::alloc::{AllocError, Global};
 
 impl Table {
@@ -113,30 +112,32 @@ impl Table {
         self.rows.iter().map(|row| u64::from(row.award)).sum()
     }
 
-    // The amounts, as the claims of a problem.
-    pub(crate) fn claims(&self) -> Amounts
-        ensures claims { result.items ≡ amounts self.now.rows.items }
+    // Writes the amounts, as the claims of a problem.
+    pub(crate) fn write_claims(&self, out: &mut [u32])
+        requires { length out.old ≡ vec_len self.now.rows }
+        ensures claims { out.new ≡ amounts self.now.rows.items }
     {
-        self.column(|row| row.amount)
+        self.write_column(|row| row.amount, out);
     }
 
-    // The classes, as a class list.
-    pub(crate) fn classes(&self) -> ArrayVec<u8, MOST_CLAIMS>
-        ensures classes { result.items ≡ classes_of self.now.rows.items }
+    // Writes the classes, as a class list.
+    pub(crate) fn write_classes(&self, out: &mut [u8])
+        requires { length out.old ≡ vec_len self.now.rows }
+        ensures classes { out.new ≡ classes_of self.now.rows.items }
     {
-        self.column(|row| row.class)
+        self.write_column(|row| row.class, out);
     }
 
-    // One value of each row, in order. It is this crate's own: a function that calls a closure asks that it may be called, and
-    // no public function has a requires.
-    fn column<T: Default + Drop, F: Fn(&Row) -> T>(&self, of: F) -> ArrayVec<T, MOST_CLAIMS>
-        requires { F.IsAlwaysCallable of }
-        ensures each { AllZip (λ row value. FnReturnsAt F.Fn of row value) self.now.rows.items result.items }
+    // Writes one value of each row, in order. It is this crate's own: a function that calls a closure asks that it may be
+    // called, and no public function has a requires.
+    fn write_column<T: Copy, F: Fn(&Row) -> T>(&self, of: F, out: &mut [T])
+        requires callable { F.IsAlwaysCallable of }
+        requires room { length out.old ≡ vec_len self.now.rows }
+        ensures each { AllZip (λ row value. FnReturnsAt F.Fn of row value) self.now.rows.items out.new }
     {
-        let mut column = ArrayVec::new();
-        for row in self.rows.iter() {
-            column.push(of(row));
+        // By place: a proof knows nothing of what a loop over iter_mut().zip(..) wrote.
+        for (place, row) in self.rows.iter().enumerate() {
+            out[place] = of(row);
         }
-        column
     }
 }

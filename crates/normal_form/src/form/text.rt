@@ -1,5 +1,5 @@
 // How a form is written.
-ghost use Rattle.std.specs.Prelude.{◌≡◌, ◌≤◌, ◌++◌, [], length, map, drop, Some, if◌then◌else◌};
+ghost use Rattle.std.specs.Prelude.{◌≡◌, ◌+◌, ◌≤◌, ◌++◌, [], length, map, drop, Some, if◌then◌else◌};
 ghost use Rattle.normal_form.specs.Forms.{written, byte_of, seniority_letter};
 ghost use Rattle.normal_form.specs.FormParts.{parts};
 
@@ -12,11 +12,14 @@ use std::fmt;
 // at most four letters.
 pub const MOST_LETTERS: usize = 6;
 
-// A letter that is there, or nothing.
-fn letter_if(present: bool, letter: &'static str) -> &'static str
-    ensures result { result.now ≡ (if present then letter.now else []) }
+// A letter more, where it is there; where it is not, nothing is copied.
+fn push_if(text: &mut ArrayString<MOST_LETTERS>, present: bool, letter: &'static str)
+    requires { length text.old.bytes + length letter.now ≤ 6 }
+    ensures { text.new.bytes ≡ text.old.bytes ++ (if present then letter.now else []) }
 {
-    if present { letter } else { "" }
+    if present {
+        text.push_str(letter);
+    }
 }
 
 // The seniority letter, or nothing.
@@ -36,12 +39,12 @@ impl Form {
         ensures text { result.bytes ≡ written (parts self.now) }
     {
         let mut text = ArrayString::new();
-        text.push_str(letter_if(self.dual, "d"));
-        text.push_str(letter_if(self.truncation == Place::Inner, "t"));
-        text.push_str(letter_if(self.rights == Place::Inner, "m"));
+        push_if(&mut text, self.dual, "d");
+        push_if(&mut text, self.truncation == Place::Inner, "t");
+        push_if(&mut text, self.rights == Place::Inner, "m");
         text.push_str(seniority(self.order));
-        text.push_str(letter_if(self.truncation == Place::Outer, "t"));
-        text.push_str(letter_if(self.rights == Place::Outer, "m"));
+        push_if(&mut text, self.truncation == Place::Outer, "t");
+        push_if(&mut text, self.rights == Place::Outer, "m");
         if text.is_empty() {
             text.push_str("-");
         }

@@ -4,12 +4,12 @@ ghost use Rattle.std.specs.Prelude.{◌≡◌, ℕ, ◌+◌, ◌*◌, ◌≤◌,
 ghost use Rattle.normal_form.specs.FormParts.{parts};
 ghost use Rattle.normal_form.specs.Forms.{written};
 ghost use Rattle.casefile.specs.Decimal.{digits};
-ghost use Rattle.transcript.specs.Texts.{award_fields, post_fields, refused_fields, as_line, as_text, text_of, least_buffer, TextAnswered};
+ghost use Rattle.transcript.specs.Texts.{award_fields, post_fields, refused_fields, as_line, as_text, text_of, least_buffer, most_printed, Begins, TextAnswered};
 ghost use Rattle.transcript.specs.Outcomes.{compared, told};
 
 use crate::outcome::{Division, Outcome, Postings};
 use crate::refusal::RunRefusal;
-use crate::text::Text;
+use crate::text::{Text, put};
 use cases::row::{Posting, Row};
 use itoa::Buffer;
 use normal_form::compare::Comparison;
@@ -27,7 +27,7 @@ trait Entry {
 
     fn push_to(&self, text: &mut Text)
         requires short { IsShort self.now }
-        requires room { length text.old + 30 ≤ least_buffer }
+        requires room { length text.old + 30 ≤ most_printed }
         ensures few { length text.new ≤ length text.old + 30 }
         ensures text { text.new ≡ text.old ++ as_line (fields self.now) };
 }
@@ -58,37 +58,43 @@ impl Entry for Posting {
     }
 }
 
-// The lines of a list.
-fn push_entries<E: Entry>(text: &mut Text, entries: &[E])
+// The lines of a list, at the front of the buffer.
+fn put_entries<E: Entry>(out: &mut [u8], entries: &[E]) -> usize
     requires short { All E.IsShort entries.now }
-    requires room { length text.old + 30 * length entries.now ≤ least_buffer }
-    ensures few { length text.new ≤ length text.old + 30 * length entries.now }
-    ensures text { text.new ≡ text.old ++ as_text (map E.fields entries.now) }
+    requires room { 30 * length entries.now ≤ length out.old }
+    ensures few { result ≤ 30 * length entries.now }
+    ensures text { Begins (as_text (map E.fields entries.now)) result out.new out.old }
 {
+    let mut at = 0;
     for entry in entries {
-        entry.push_to(text);
+        let mut line = Text::new();
+        entry.push_to(&mut line);
+        at = put(out, at, &line);
     }
+    at
 }
 
-// The text of a division: its awards, and the estate that was divided.
-fn division_text(division: &Division) -> Text
-    ensures { result ≡ as_text (map award_fields division.now.rows.items ++ (codes "total" ∷ digits division.now.estate ∷ []) ∷ []) }
+// The lines of a division: its awards, and the estate that was divided.
+fn put_division(out: &mut [u8], division: &Division) -> usize
+    requires { least_buffer ≤ length out.old }
+    ensures few { result ≤ least_buffer }
+    ensures text { Begins (as_text (map award_fields division.now.rows.items ++ (codes "total" ∷ digits division.now.estate ∷ []) ∷ [])) result out.new out.old }
 {
-    let mut text = Text::new();
-    push_entries(&mut text, division.rows());
+    let at = put_entries(out, division.rows());
+    let mut line = Text::new();
     let mut estate = Buffer::new();
-    text.push_line(b"total", &[estate.format(division.estate).as_bytes()]);
-    text
+    line.push_line(b"total", &[estate.format(division.estate).as_bytes()]);
+    put(out, at, &line)
 }
 
-// The text of a signing: its postings, and that it was signed.
-fn signing_text(postings: &Postings) -> Text
-    ensures { result ≡ as_text (map post_fields postings.now.list.items ++ (codes "signed" ∷ []) ∷ []) }
+// The lines of a signing: its postings, and that it was signed.
+fn put_signing(out: &mut [u8], postings: &Postings) -> usize
+    requires { least_buffer ≤ length out.old }
+    ensures few { result ≤ least_buffer }
+    ensures text { Begins (as_text (map post_fields postings.now.list.items ++ (codes "signed" ∷ []) ∷ [])) result out.new out.old }
 {
-    let mut text = Text::new();
-    push_entries(&mut text, postings.list());
-    text.push_line(b"signed", &[]);
-    text
+    let at = put_entries(out, postings.list());
+    put(out, at, &word_text(b"signed"))
 }
 
 // The text of a comparison.
@@ -130,7 +136,7 @@ pub(crate) fn refused_text(line: usize, number: u8) -> Text
 
 // The text of one word.
 fn word_text(word: &[u8]) -> Text
-    requires { length word.now + 1 ≤ least_buffer }
+    requires { length word.now + 1 ≤ most_printed }
     ensures { result ≡ as_text ((word.now ∷ []) ∷ []) }
 {
     let mut text = Text::new();
@@ -139,19 +145,21 @@ fn word_text(word: &[u8]) -> Text
 }
 
 impl Outcome {
-    // The text of the outcome of a line, whose number a refusal alone names.
-    pub(crate) fn text(&self, line: usize) -> Text
-        ensures { result ≡ text_of line (told self.now) }
+    // Writes the text of the outcome, where there is room for any, and answers how many bytes it has.
+    fn put_text(&self, line: usize, out: &mut [u8]) -> usize
+        requires { least_buffer ≤ length out.old }
+        ensures few { result ≤ least_buffer }
+        ensures text { Begins (text_of line (told self.now)) result out.new out.old }
     {
         match self {
-            Outcome::Remark => Text::new(),
-            Outcome::Accepted => word_text(b"ok"),
-            Outcome::Divided(division) => division_text(division),
-            Outcome::Drawn { rows, total } => drawn_text(*rows, *total),
-            Outcome::Signed(postings) => signing_text(postings),
-            Outcome::Returned => word_text(b"returned"),
-            Outcome::Compared(comparison) => comparison_text(comparison),
-            Outcome::Refused(refusal) => refused_text(line, refusal.number()),
+            Outcome::Remark => 0,
+            Outcome::Accepted => put(out, 0, &word_text(b"ok")),
+            Outcome::Divided(division) => put_division(out, division),
+            Outcome::Drawn { rows, total } => put(out, 0, &drawn_text(*rows, *total)),
+            Outcome::Signed(postings) => put_signing(out, postings),
+            Outcome::Returned => put(out, 0, &word_text(b"returned")),
+            Outcome::Compared(comparison) => put(out, 0, &comparison_text(comparison)),
+            Outcome::Refused(refusal) => put(out, 0, &refused_text(line, refusal.number())),
         }
     }
 
@@ -164,9 +172,6 @@ impl Outcome {
         if out.len() < LEAST_BUFFER {
             return Err(RunRefusal::BufferTooShort);
         }
-        let text = self.text(line);
-        let bytes = text.as_bytes();
-        out[..bytes.len()].copy_from_slice(bytes);
-        Ok(bytes.len())
+        Ok(self.put_text(line, out))
     }
 }

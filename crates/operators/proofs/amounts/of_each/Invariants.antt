@@ -1,7 +1,6 @@
-use Rattle.std.proofs.Common.{◌≡◌, ℕ, map, take, length}
+use Rattle.std.proofs.Common.{◌≡◌, ℕ, map, take}
 use Rattle.operators.proofs.amounts.of_each.Given as goal
 
-abbrev pub invariant-loop-claim : goal.invariant-loop-claim
-invariant-loop-claim g l =
-    (length l.amounts.items ≡ l.claim-index)
-    × ((f : ℕ → ℕ) → ((c a : ℕ) → g.F.Fn.post l.amount (c, tt) a → a ≡ f c) → l.amounts.items ≡ map f (take l.claim-index l.problem.claims.now))
+abbrev pub invariant-loop-place : goal.invariant-loop-place
+invariant-loop-place g l =
+    (f : ℕ → ℕ) → ((c a : ℕ) → g.F.Fn.post l.amount (c, tt) a → a ≡ f c) → take l.place l.out ≡ map f (take l.place l.problem.claims.now)

@@ -1,5 +1,4 @@
 use Rattle.std.proofs.Common.{◌≡◌, ℕ, true, length, None, ap, ◌∙◌, arith}
-use lib.ListN.{length-map}
 use Rattle.division.specs.Refusals.{answer}
 use Rattle.normal_form.specs.Piles.{pile_due}
 use Rattle.cases.specs.Rows.{classes_of}
@@ -12,10 +11,10 @@ pub unreachable-requires : goal.unreachable-requires
 unreachable-requires g c =
     let v = view c.args.self.now in
     let table = c.args.self.now.table in
-    let room = length c.deref_mut.result.now in
-    let none : pile_due true c.deref.result.now c.deref-2.result.now (estate_of v) room ≡ None =
-    ap (λ ks. pile_due true ks c.deref-2.result.now (estate_of v) room) (c.deref.ensures.0 ∙ c.classes-classes.ensures.classes)
-    ∙ ap (λ cs. pile_due true (classes_of v.rows) cs (estate_of v) room) (c.deref-2.ensures.0 ∙ c.claims-claims.ensures.claims)
-    ∙ never_refused v room (omega (arith, table.few, table.rows.ok.0)) (omega (arith, length-map v.rows (λ row. row.amount), ap length c.claims-claims.ensures.claims, c.truncate.ensures.len, c.from-awards.ensures.1, ap length c.deref_mut.ensures.value, c.len.ensures.value, table.few, table.rows.ok.0)) table.small table.classed c.requires.due in
+    let room = length c.args.awards.now in
+    let none : pile_due true c.write_classes.new.out c.write_claims.new.out (estate_of v) room ≡ None =
+    ap (λ ks. pile_due true ks c.write_claims.new.out (estate_of v) room) c.write_classes.ensures.classes
+    ∙ ap (λ cs. pile_due true (classes_of v.rows) cs (estate_of v) room) c.write_claims.ensures.claims
+    ∙ never_refused v room (omega (arith, table.few, table.rows.ok.0)) c.requires.room table.small table.classed c.requires.due in
     let never : ◌≡◌ {A = ℕ} 0 1 = cc (c.in-Err.ensures.result, ap (λ o. answer o (tt {0})) none) in
     omega arith

@@ -4,14 +4,7 @@ use Rattle.division.specs.Amounts.{total, nothing}
 use Rattle.division.specs.AmountLaws.{nothing_left}
 use Rattle.division.specs.Refusals.{unless_due}
 use Rattle.division.specs.Proportion.{proportion}
-use Rattle.division.specs.ProportionLawful.{proportion_lawful}
-use Rattle.division.proofs.Handing.{as_long_as_room}
 use Rattle.division.proofs.proportion.ProportionRule.divide.Goals as goal
-
-pub copy_from_slice-requires-else-problem-eq0 : goal.copy_from_slice-requires-else-problem-eq0
-copy_from_slice-requires-else-problem-eq0 c =
-    let passed = c.in_ok-problem.ensures.result in
-    as_long_as_room proportion proportion_lawful _ _ _ _ _ c.in_ok-problem.problem.sound passed.0 passed.2.room_is (c.deref.ensures.0 ∙ c.pay_parts.ensures.awards)
 
 pub returns-then-problem-eq0-clause-awards : goal.returns-then-problem-eq0-clause-awards
 returns-then-problem-eq0-clause-awards c =
