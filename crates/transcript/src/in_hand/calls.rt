@@ -68,8 +68,10 @@ impl CaseInHand {
         ensures turn { Answers (on_divide name (in_hand self.old)) (told_of (λ division. awarded division.rows.items division.estate) result) (in_hand self.new) }
     {
         self.case.divide(&rule_of(name))?;
+        let mut rows = ArrayVec::new();
+        rows.try_extend_from_slice(self.case.rows()).unwrap();
         Ok(Division {
-            rows: ArrayVec::try_from(self.case.rows()).unwrap(),
+            rows,
             estate: self.case.estate(),
         })
     }
